@@ -1,0 +1,6 @@
+// The policies by name.
+#[derive(Clone, Copy, PartialEq, Eq, Debug)]
+pub enum Policy {
+    Rendezvous,
+    Jump,
+}
