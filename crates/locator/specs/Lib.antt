@@ -1,0 +1,3 @@
+pub mod Questions
+pub mod Lines
+pub mod Messages
