@@ -43,8 +43,9 @@ take-without-kept (suc r) m s (x ∷ l) n h =
     let ih : member s (take r l) ≡ true → member s (take r (without m l)) ≡ true = take-without-kept r m s l n in
     let more : member s (take r l) ≡ true → member s (take (suc r) l) ≡ true = take-more-member r s l in
     elim (cases-eq x m) [
-      inl e ↦ (let t : without m (x ∷ l) ≡ l = grind (arith, tells) in rw t (more (grind (arith, tells))))
-    | inr e ↦ (let t : without m (x ∷ l) ≡ x ∷ without m l = grind (arith, tells) in rw t (grind (arith, tells))) ]
+      | inl e ↦ (let t : without m (x ∷ l) ≡ l = grind (arith, tells) in rw t (more (grind (arith, tells))))
+      | inr e ↦ (let t : without m (x ∷ l) ≡ x ∷ without m l = grind (arith, tells) in rw t (grind (arith, tells)))
+    ]
 
 pub take-without-same : (r m : ℕ) (l : List ℕ) → member m (take r l) ≡ false → take r (without m l) ≡ take r l
 take-without-same zero m l h = refl
@@ -54,4 +55,3 @@ take-without-same (suc r) m (x ∷ l) h =
     let ne : eqb x m ≡ false = grind (arith, tells) in
     let t : without m (x ∷ l) ≡ x ∷ without m l = grind (arith, tells) in
     rw t (ap (λ (u : List ℕ). x ∷ u) (ih (grind (arith, tells))))
-

@@ -82,10 +82,9 @@ pigeons (x ∷ a) b d h =
     let hx : member x b ≡ true = h x (grind (arith, tells)) in
     let n : member x a ≡ false = d .0 in
     let ih : length a ≤ length (without x b) = pigeons a (without x b) (d .1)
-          (λ y m. let hy : member y b ≡ true = h y (grind (arith, tells)) in
-                  without-out x y b (λ e. let z : member x a ≡ true = rw e at m in grind (arith, tells)) hy) in
+    (λ y m. let hy : member y b ≡ true = h y (grind (arith, tells)) in
+    without-out x y b (λ e. let z : member x a ≡ true = rw e at m in grind (arith, tells)) hy) in
     omega (arith, without-length x b hx)
-
 
 pub count-up-member : (n i s : ℕ) → i ≤ s → s < i + n → member s (count-up i n) ≡ true
 count-up-member zero i s p q = absurd (omega arith)
@@ -108,9 +107,10 @@ count-up-high (suc n) i s h =
 pub count-up-distinct : (n i : ℕ) → Distinct (count-up i n)
 count-up-distinct zero i = tt
 count-up-distinct (suc n) i =
-    let low : member i (count-up (i + 1) n) ≡ true → i + 1 ≤ i = count-up-low n (i + 1) i in
-    ( elim (cases-bool (member i (count-up (i + 1) n))) [ inl e ↦ absurd (let z = low e in omega arith) | inr e ↦ e ]
-    , count-up-distinct n (i + 1) )
+    let low : member i (count-up (i + 1) n) ≡ true → i + 1 ≤ i = count-up-low n (i + 1) i in (
+      elim (cases-bool (member i (count-up (i + 1) n))) [ inl e ↦ absurd (let z = low e in omega arith) | inr e ↦ e ],
+      count-up-distinct n (i + 1),
+    )
 
 pub length-count-up : (n i : ℕ) → length (count-up i n) ≡ n
 length-count-up zero i = refl
@@ -130,4 +130,3 @@ test-from-distinct (x ∷ R) h =
     let ih : all-distinct R ≡ true = test-from-distinct R (h .1) in
     let n : member x R ≡ false = h .0 in
     grind (arith, tells)
-

@@ -26,18 +26,21 @@ own = numerals-by-value (λ ds. allDigits ds ≡ true) tells-allDigits
 -- the first byte of a written number is a digit, and 0 only of the number 0
 pub first-byte : (n : ℕ) → n < 2 ^ 64 → (decimal n ≡ 48 ∷ []) ⊎ (48 < getD (decimal n) 0 0)
 first-byte n h = elim (cases-eq n 0) [
-    inl e ↦ inl (ap decimal e ∙ decimal-digit 0 (omega arith))
-  | inr q ↦ inr (first-decimal n (grind arith) h) ]
+  | inl e ↦ inl (ap decimal e ∙ decimal-digit 0 (omega arith))
+  | inr q ↦ inr (first-decimal n (grind arith) h)
+]
 
 pub no-zero-first : (w : List ℕ) → 1 < length w → getD w 0 0 ≡ 48 → (n : ℕ) → Writes w n → ⊥
 no-zero-first w l z n (h, e) = elim (first-byte n h) [
-    inl q ↦ (let d = ap length (e ∙ q) in omega arith)
-  | inr q ↦ (let d = ap (λ (u : List ℕ). getD u 0 0) e in omega arith) ]
+  | inl q ↦ (let d = ap length (e ∙ q) in omega arith)
+  | inr q ↦ (let d = ap (λ (u : List ℕ). getD u 0 0) e in omega arith)
+]
 
 pub no-plus-first : (w : List ℕ) → getD w 0 0 ≡ 43 → (n : ℕ) → Writes w n → ⊥
 no-plus-first w z n (h, e) = elim (first-byte n h) [
-    inl q ↦ (let d = ap (λ (u : List ℕ). getD u 0 0) (e ∙ q) in omega arith)
-  | inr q ↦ (let d = ap (λ (u : List ℕ). getD u 0 0) e in omega arith) ]
+  | inl q ↦ (let d = ap (λ (u : List ℕ). getD u 0 0) (e ∙ q) in omega arith)
+  | inr q ↦ (let d = ap (λ (u : List ℕ). getD u 0 0) e in omega arith)
+]
 
 -- what is parsed is what was written
 pub parsed : {E : Type 0} (w : List ℕ) (r : Result ℕ E) → ReadsUnsigned 64 10 w r → (getD w 0 0 ≡ 43 → ⊥) → (1 < length w → getD w 0 0 ≡ 48 → ⊥) →

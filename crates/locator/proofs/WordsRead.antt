@@ -67,8 +67,9 @@ pub key-wrong : (ws : List Text) (e : LocateFault) (p : Policy) → getD ws 0 []
     ((n : ℕ) × Writes (getD ws 2 []) n) → No-key ws e → Refuses ws e
 key-wrong ws Memory p a b d k = tt
 key-wrong ws (Word f) p a b d k = record {
-    before = right-before ws (f .place) p (λ _. a) (λ _. b) later;
-    here = subst (λ (r : Reason). Says r ws (f .place)) (sym (k .2)) ((let l : 3 ≤ f .place = k .0 in omega arith), k .1, k .4) }
+  before = right-before ws (f .place) p (λ _. a) (λ _. b) later;
+  here = subst (λ (r : Reason). Says r ws (f .place)) (sym (k .2)) ((let l : 3 ≤ f .place = k .0 in omega arith), k .1, k .4);
+}
   where
     later : (j : ℕ) → 2 ≤ j → j < f .place → (n : ℕ) × Writes (getD ws j []) n
     later zero l h = absurd (omega arith)

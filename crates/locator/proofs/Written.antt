@@ -66,6 +66,7 @@ left-over r m one e =
     let l = length-count-up m 0 in
     let mem : member (m - 1) (count-up 0 m) ≡ true = count-up-member m 0 (m - 1) (omega arith) (omega arith) in
     elim (cases-lt (length (count-up 0 m)) 2) [
-      inl h ↦ (let m1 : 1 ≡ m = omega arith in
-               listed r _ (e ∙ without-only (m - 1) (count-up 0 m) mem h) ∙ subst (λ (n : ℕ). [] ≡ without (n - 1) (count-up 0 n)) m1 refl)
-    | inr h ↦ listed r _ (e ∙ without-accepts (m - 1) (count-up 0 m) mem h) ]
+      | inl h ↦ (let m1 : 1 ≡ m = omega arith in
+          listed r _ (e ∙ without-only (m - 1) (count-up 0 m) mem h) ∙ subst (λ (n : ℕ). [] ≡ without (n - 1) (count-up 0 n)) m1 refl)
+      | inr h ↦ listed r _ (e ∙ without-accepts (m - 1) (count-up 0 m) mem h)
+    ]

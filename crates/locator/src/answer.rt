@@ -38,7 +38,13 @@ fn write_stores(out: &mut String, list: &Roster) -> fmt::Result
 }
 
 // Writes the stores of a key under a roster, `-` where there is none.
-fn write_place(out: &mut String, policy: Policy, copies: usize, key: u64, roster: Option<Roster>) -> fmt::Result
+fn write_place(
+    out: &mut String,
+    policy: Policy,
+    copies: usize,
+    key: u64,
+    roster: Option<Roster>,
+) -> fmt::Result
     ensures { λ r. ⌜ made r (λ _. string-bytes (now (out .exit)) ≡ string-bytes (now (out .entry)) ++ joined (stores-of (rule-of policy) copies key (members-of roster))) ⌝ }
 {
     match roster {
@@ -52,7 +58,14 @@ fn write_place(out: &mut String, policy: Policy, copies: usize, key: u64, roster
 }
 
 // Writes the line of a key.
-fn write_line(out: &mut String, policy: Policy, copies: usize, key: u64, roster: Option<Roster>, rest: Option<Roster>) -> fmt::Result
+fn write_line(
+    out: &mut String,
+    policy: Policy,
+    copies: usize,
+    key: u64,
+    roster: Option<Roster>,
+    rest: Option<Roster>,
+) -> fmt::Result
     ensures { λ r. ⌜ made r (λ _. string-bytes (now (out .exit)) ≡ string-bytes (now (out .entry)) ++ line (rule-of policy) copies (members-of roster) (members-of rest) key) ⌝ }
 {
     write!(out, "{key} ")?;
@@ -64,7 +77,14 @@ fn write_line(out: &mut String, policy: Policy, copies: usize, key: u64, roster:
 }
 
 // Writes the lines of some keys.
-fn write_lines(out: &mut String, policy: Policy, copies: usize, keys: &[u64], roster: Option<Roster>, rest: Option<Roster>) -> fmt::Result
+fn write_lines(
+    out: &mut String,
+    policy: Policy,
+    copies: usize,
+    keys: &[u64],
+    roster: Option<Roster>,
+    rest: Option<Roster>,
+) -> fmt::Result
     ensures { λ r. ⌜ made r (λ _. string-bytes (now (out .exit)) ≡ string-bytes (now (out .entry)) ++ lines (rule-of policy) copies (members-of roster) (members-of rest) (now (keys .entry))) ⌝ }
 {
     for key in keys {
@@ -100,6 +120,13 @@ pub fn locate(heap: Global, words: &[String]) -> Result<String, LocateFault>
     let roster = whole(question.members);
     let rest = remaining(question.members);
     let mut text = String::new(heap);
-    write_lines(&mut text, question.policy, question.copies, question.keys.as_slice(), roster, rest)?;
+    write_lines(
+        &mut text,
+        question.policy,
+        question.copies,
+        question.keys.as_slice(),
+        roster,
+        rest,
+    )?;
     Ok(text)
 }

@@ -51,11 +51,17 @@ fn number_at(words: &[String], place: usize) -> Result<u64, WordFault>
     ensures { λ r. ⌜ Cases r (λ n. (place < length (now (words .entry))) × Writes (getD (texts (now (words .entry))) place []) n) (λ f. (f .place ≡ place) × Bad-number (texts (now (words .entry))) place (f .reason)) ⌝ }
 {
     if place >= words.len() {
-        return Err(WordFault { place, reason: Reason::Missing });
+        return Err(WordFault {
+            place,
+            reason: Reason::Missing,
+        });
     }
     match read_number(words[place].as_str()) {
         Some(n) => Ok(n),
-        None => Err(WordFault { place, reason: Reason::NotANumber }),
+        None => Err(WordFault {
+            place,
+            reason: Reason::NotANumber,
+        }),
     }
 }
 
@@ -64,11 +70,17 @@ fn first_policy(words: &[String]) -> Result<Policy, WordFault>
     ensures { λ r. ⌜ Cases r (λ p. (0 < length (now (words .entry))) × (getD (texts (now (words .entry))) 0 [] ≡ policy-word p)) (λ f. Wrong (texts (now (words .entry))) f) ⌝ }
 {
     if words.len() == 0 {
-        return Err(WordFault { place: 0, reason: Reason::Missing });
+        return Err(WordFault {
+            place: 0,
+            reason: Reason::Missing,
+        });
     }
     match read_policy(words[0].as_str()) {
         Some(p) => Ok(p),
-        None => Err(WordFault { place: 0, reason: Reason::NotAPolicy }),
+        None => Err(WordFault {
+            place: 0,
+            reason: Reason::NotAPolicy,
+        }),
     }
 }
 
@@ -90,7 +102,10 @@ fn member_count(words: &[String]) -> Result<usize, WordFault>
 {
     let n = number_at(words, 1)?;
     if n < 1 || 16 < n {
-        return Err(WordFault { place: 1, reason: Reason::NotOneToSixteen });
+        return Err(WordFault {
+            place: 1,
+            reason: Reason::NotOneToSixteen,
+        });
     }
     Ok(n as usize)
 }
@@ -103,8 +118,16 @@ pub fn read_question(heap: Global, words: &[String]) -> Result<Question, LocateF
     let members = member_count(words)?;
     let copies = number_at(words, 2)?;
     if words.len() < 4 {
-        return Err(LocateFault::Word(WordFault { place: 3, reason: Reason::Missing }));
+        return Err(LocateFault::Word(WordFault {
+            place: 3,
+            reason: Reason::Missing,
+        }));
     }
     let keys = read_keys(heap, words)?;
-    Ok(Question { policy, members, copies: copies as usize, keys })
+    Ok(Question {
+        policy,
+        members,
+        copies: copies as usize,
+        keys,
+    })
 }

@@ -83,8 +83,8 @@ unpack-cut (suc i) zero w h = absurd (omega arith)
 unpack-cut (suc i) (suc n) w h =
     let l = low-more w i in
     let p : (w / 2 ^ (4 * suc i)) / 16 * 2 ^ (4 * suc i) ≡ 16 * (w / 16 / 2 ^ (4 * i) / 16 * 2 ^ (4 * i)) =
-          ap (λ (x : ℕ). x / 16 * 2 ^ (4 * suc i)) (high-more w i) ∙ ap (λ (x : ℕ). w / 16 / 2 ^ (4 * i) / 16 * x) (sixteen-more i)
-          ∙ mul-left-comm (w / 16 / 2 ^ (4 * i) / 16) 16 (2 ^ (4 * i)) in
+    ap (λ (x : ℕ). x / 16 * 2 ^ (4 * suc i)) (high-more w i) ∙ ap (λ (x : ℕ). w / 16 / 2 ^ (4 * i) / 16 * x) (sixteen-more i)
+    ∙ mul-left-comm (w / 16 / 2 ^ (4 * i) / 16) 16 (2 ^ (4 * i)) in
     let a : (w % 2 ^ (4 * suc i) + w / 2 ^ (4 * suc i) / 16 * 2 ^ (4 * suc i)) % 16 ≡ w % 16 = omega arith in
     let b : (w % 2 ^ (4 * suc i) + w / 2 ^ (4 * suc i) / 16 * 2 ^ (4 * suc i)) / 16 ≡ w / 16 % 2 ^ (4 * i) + w / 16 / 2 ^ (4 * i) / 16 * 2 ^ (4 * i) = omega arith in
     rw (a, b) (ap (λ (x : List ℕ). w % 16 ∷ x) (unpack-cut i n (w / 16) (omega arith)))

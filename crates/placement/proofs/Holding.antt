@@ -5,7 +5,7 @@ use mathlib.Core.Bool.{Bool, true, false, cond, _&&_}
 use mathlib.Core.Logic.{_⊎_, inl, inr}
 use Prim.Native.Nat.{ℕ, zero, suc, _<_, _≤_, _+_}
 use lib.Dec.{eqb, leb, ltb}
-use lib.ListN.{length, length-append, take}
+use lib.ListN.{length, length-append, take, drop, getD}
 use native.Mathlib.Nat.{add-zero}
 use native.Mathlib.Omega.{arith}
 use Rattle.std.specs.Options.{isSome, mapped}
@@ -16,6 +16,7 @@ use Rattle.std.proofs.shelf.Tests.{cases-bool, cond-both, cond-true, cond-false
 use Rattle.std.specs.declared.result.Result.the-variants.{Ok, Err}
 use Rattle.lists.specs.Numbers.{member, place-of, Distinct, all-distinct, without, count-up}
 use Rattle.lists.proofs.Members.{member-append, without-distinct, without-in, without-absent, without-length, push-distinct, pigeons, count-up-member, count-up-high, count-up-distinct, length-count-up, distinct-from-test, test-from-distinct}
+use Rattle.lists.proofs.Places.{onward}
 use Rattle.placement.specs.declared.roster.Roster.{Roster}
 use Rattle.placement.specs.declared.roster.RosterFault.the-variants.{OnlyMember, NotAMember}
 use Rattle.placement.specs.Packing.{unpack, cut}
@@ -25,22 +26,25 @@ use Rattle.placement.proofs.Digits.{length-unpack, take-unpack}
 
 pub push-roster : (n : ℕ) (R : List ℕ) (s : ℕ) → Rostered n R → member s R ≡ false → s < n → Rostered n (R ++ s ∷ [])
 push-roster n R s r m l = record {
-    distinct = push-distinct R s (r .distinct) m;
-    below = λ x i. let a = member-append x R (s ∷ []) in
+  distinct = push-distinct R s (r .distinct) m;
+  below = λ x i. let a = member-append x R (s ∷ []) in
       elim (cases-bool (member x R)) [ inl t ↦ r .below x t | inr t ↦ let e : s ≡ x = grind (arith, tells) in omega arith ];
-    some = simp length-append (omega arith) }
+  some = simp length-append (omega arith);
+}
 
 pub without-roster : (n : ℕ) (R : List ℕ) (s : ℕ) → Rostered n R → member s R ≡ true → 2 ≤ length R → Rostered n (without s R)
 without-roster n R s r m l = record {
-    distinct = without-distinct s R (r .distinct);
-    below = λ x i. r .below x (without-in s x R i);
-    some = omega (arith, without-length s R m) }
+  distinct = without-distinct s R (r .distinct);
+  below = λ x i. r .below x (without-in s x R i);
+  some = omega (arith, without-length s R m);
+}
 
 pub count-up-rostered : (m n : ℕ) → 1 ≤ m → m ≤ n → Rostered n (count-up 0 m)
 count-up-rostered m n p q = record {
-    distinct = count-up-distinct m 0;
-    below = λ s h. let b : s < 0 + m = count-up-high m 0 s h in omega arith;
-    some = let e = length-count-up m 0 in omega arith }
+  distinct = count-up-distinct m 0;
+  below = λ s h. let b : s < 0 + m = count-up-high m 0 s h in omega arith;
+  some = let e = length-count-up m 0 in omega arith;
+}
 
 -- a roster has no more members than there are stores
 pub rostered-few : (n : ℕ) (R : List ℕ) → Rostered n R → length R ≤ n
@@ -50,8 +54,9 @@ rostered-few n R r =
 
 pub rostered-without : (n : ℕ) (R : List ℕ) (s : ℕ) → Rostered n R → 2 ≤ length R → Rostered n (without s R)
 rostered-without n R s r l = elim (cases-bool (member s R)) [
-    inl t ↦ without-roster n R s r t l
-  | inr t ↦ rw (without-absent s R t) r ]
+  | inl t ↦ without-roster n R s r t l
+  | inr t ↦ rw (without-absent s R t) r
+]
 
 pub rostered-push-few : (n : ℕ) (R : List ℕ) (s : ℕ) → Rostered n R → member s R ≡ false → s < n → length R < n
 rostered-push-few n R s r m l =
@@ -64,9 +69,10 @@ roster-more n R h r = record { distinct = r .distinct; below = λ s m. let b : s
 pub members-rostered : (r : Roster) → Rostered (r .stores) (members r)
 unfolding members
 members-rostered r = record {
-    distinct = distinct-from-test (unpack (r .word) (r .len)) (r .distinct);
-    below = r .below;
-    some = let l = length-unpack (r .word) (r .len) in let s : 1 ≤ r .len = r .some in omega arith }
+  distinct = distinct-from-test (unpack (r .word) (r .len)) (r .distinct);
+  below = r .below;
+  some = let l = length-unpack (r .word) (r .len) in let s : 1 ≤ r .len = r .some in omega arith;
+}
 
 -- as the laws of a placement take it
 pub members-rostered-16 : (r : Roster) → Rostered 16 (members r)
@@ -108,27 +114,35 @@ mapped-some (Some j) i e = (j, refl, (let z : j + 1 ≡ i = cc in omega arith))
 pub place-cut : (s : ℕ) (l : List ℕ) (i : ℕ) → place-of s l ≡ Some i → (i < length l) × (cut i l ≡ without s l)
 place-cut s [] i e = absurd (let z : _≡_ {A = ℕ} 0 1 = cc in omega arith)
 place-cut s (x ∷ l) i e = elim (cases-bool (eqb x s)) [
-    inl t ↦ (let z : Some 0 ≡ Some i = sym (ap (λ b. cond b (Some 0) (mapped (λ j. j + 1) (place-of s l))) t) ∙ e in
-             let i0 : 0 ≡ i = cc in
-             (omega arith, ap (λ (u : ℕ). cut u (x ∷ l)) (sym i0) ∙ sym (ap (λ b. cond b l (x ∷ without s l)) t)))
+  | inl t ↦ (let z : Some 0 ≡ Some i = sym (ap (λ b. cond b (Some 0) (mapped (λ j. j + 1) (place-of s l))) t) ∙ e in
+      let i0 : 0 ≡ i = cc in
+      (omega arith, ap (λ (u : ℕ). cut u (x ∷ l)) (sym i0) ∙ sym (ap (λ b. cond b l (x ∷ without s l)) t)))
   | inr t ↦ (let z : mapped (λ j. j + 1) (place-of s l) ≡ Some i = sym (ap (λ b. cond b (Some 0) (mapped (λ j. j + 1) (place-of s l))) t) ∙ e in
-             let m = mapped-some (place-of s l) i z in
-             let ih = place-cut s l (m .0) (m .1) in
-             let si : i ≡ suc (m .0) = m .2 in
-             (let q : m .0 < length l = ih .0 in omega arith, ap (λ (u : ℕ). cut u (x ∷ l)) si ∙ ap (λ (u : List ℕ). x ∷ u) (ih .1) ∙ sym (ap (λ b. cond b l (x ∷ without s l)) t))) ]
+      let m = mapped-some (place-of s l) i z in
+      let ih = place-cut s l (m .0) (m .1) in
+      let si : i ≡ suc (m .0) = m .2 in
+      (let q : m .0 < length l = ih .0 in omega arith, ap (λ (u : ℕ). cut u (x ∷ l)) si ∙ ap (λ (u : List ℕ). x ∷ u) (ih .1) ∙ sym (ap (λ b. cond b l (x ∷ without s l)) t)))
+]
 
--- a walk for a store's place
-pub place-hit : (s x i : ℕ) (D : List ℕ) (T : Option ℕ) → x ≡ s → mapped (λ j. i + j) (place-of s (x ∷ D)) ≡ T → Some i ≡ T
-place-hit s x i D T e v =
-    ap Some (sym (add-zero i)) ∙ sym (ap (λ b. mapped (λ j. i + j) (cond b (Some 0) (mapped (λ j. j + 1) (place-of s D)))) (eq-eqb x s e)) ∙ v
+-- what a walk for a store's place has found from place i on
+abbrev pub found-from : ℕ → ℕ → List ℕ → Option ℕ
+found-from s i l = mapped (λ j. i + j) (place-of s l)
 
 twice-mapped : (i : ℕ) (o : Option ℕ) → mapped (λ j. (i + 1) + j) o ≡ mapped (λ j. i + j) (mapped (λ j. j + 1) o)
 twice-mapped i None = refl
 twice-mapped i (Some j) = let e : (i + 1) + j ≡ i + (j + 1) = omega arith in ap Some e
 
-pub place-skip : (s x i : ℕ) (D : List ℕ) (T : Option ℕ) → (x ≡ s → ⊥) → mapped (λ j. i + j) (place-of s (x ∷ D)) ≡ T → mapped (λ j. (i + 1) + j) (place-of s D) ≡ T
-place-skip s x i D T n v =
-    twice-mapped i (place-of s D) ∙ sym (ap (λ b. mapped (λ j. i + j) (cond b (Some 0) (mapped (λ j. j + 1) (place-of s D)))) (ne-eqb x s n)) ∙ v
+module _ (s x i : ℕ) (L : List ℕ) (inside : i < length L) (at : x ≡ getD L i 0) (so-far : found-from s i (drop i L) ≡ place-of s L) where
+  here : found-from s i (x ∷ drop (i + 1) L) ≡ place-of s L
+  here = onward (found-from s i) L i x (place-of s L) inside at so-far
+
+  pub found-here : x ≡ s → Some i ≡ place-of s L
+  found-here e =
+      ap Some (sym (add-zero i)) ∙ sym (ap (λ b. mapped (λ j. i + j) (cond b (Some 0) (mapped (λ j. j + 1) (place-of s (drop (i + 1) L))))) (eq-eqb x s e)) ∙ here
+
+  pub found-later : (x ≡ s → ⊥) → found-from s (i + 1) (drop (i + 1) L) ≡ place-of s L
+  found-later n =
+      twice-mapped i (place-of s (drop (i + 1) L)) ∙ sym (ap (λ b. mapped (λ j. i + j) (cond b (Some 0) (mapped (λ j. j + 1) (place-of s (drop (i + 1) L))))) (ne-eqb x s n)) ∙ here
 
 -- what the calls answer, by case
 pub first-accepts : (m n : ℕ) → 1 ≤ m → m ≤ n → n ≤ 16 → first-of m n ≡ Ok (count-up 0 m)
@@ -158,6 +172,7 @@ count-up-word m h = sym (take-unpack m 16 18364758544493064720 h) ∙ take-count
 -- one store alone
 pub alone-rostered : (n s : ℕ) → s < n → Rostered n (s ∷ [])
 alone-rostered n s h = record {
-    distinct = (refl, tt);
-    below = λ x m. let e : s ≡ x = grind (arith, tells) in omega arith;
-    some = omega arith }
+  distinct = (refl, tt);
+  below = λ x m. let e : s ≡ x = grind (arith, tells) in omega arith;
+  some = omega arith;
+}

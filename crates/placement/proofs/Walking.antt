@@ -49,9 +49,10 @@ module _ (n : ℕ) where
   walk-enough (suc f) (suc g) s b p q h =
       let u : b < leap (next-state s) b = leap-up (next-state s) b (state-fits s) in
       elim (cases-lt (leap (next-state s) b) n) [
-        inl e ↦ (let ih : walk f (next-state s) (leap (next-state s) b) n ≡ walk g (next-state s) (leap (next-state s) b) n = walk-enough f g (next-state s) (leap (next-state s) b) (omega arith) (omega arith) e in
-                 cond-true (ltb (leap (next-state s) b) n) _ _ (lt-ltb (leap (next-state s) b) n e) ∙ ih ∙ sym (cond-true (ltb (leap (next-state s) b) n) _ _ (lt-ltb (leap (next-state s) b) n e)))
-      | inr e ↦ cond-false (ltb (leap (next-state s) b) n) _ _ (le-ltb (leap (next-state s) b) n e) ∙ sym (cond-false (ltb (leap (next-state s) b) n) _ _ (le-ltb (leap (next-state s) b) n e)) ]
+        | inl e ↦ (let ih : walk f (next-state s) (leap (next-state s) b) n ≡ walk g (next-state s) (leap (next-state s) b) n = walk-enough f g (next-state s) (leap (next-state s) b) (omega arith) (omega arith) e in
+            cond-true (ltb (leap (next-state s) b) n) _ _ (lt-ltb (leap (next-state s) b) n e) ∙ ih ∙ sym (cond-true (ltb (leap (next-state s) b) n) _ _ (lt-ltb (leap (next-state s) b) n e)))
+        | inr e ↦ cond-false (ltb (leap (next-state s) b) n) _ _ (le-ltb (leap (next-state s) b) n e) ∙ sym (cond-false (ltb (leap (next-state s) b) n) _ _ (le-ltb (leap (next-state s) b) n e))
+      ]
 
 -- where one more position does not take the walk, it stands where it stood
 pub walk-stays : (n f s b : ℕ) → walk f s b (suc n) < n → walk f s b n ≡ walk f s b (suc n)
@@ -113,17 +114,18 @@ jump-same k R m d h two ne =
 pub jump-lawful : Lawful jump
 unfolding jump
 jump-lawful = record {
-    greatest-fits = (omega arith, omega arith);
-    nearer-end = λ k R r. refl;
-    size = λ k R r ros. (let a : 1 ≤ length R = ros .some in omega arith);
-    apart = λ k R r ros. (refl, tt);
-    within = λ k R r ros s h. (let e : getD R (position k (length R)) 0 ≡ s = grind (arith, tells) in rw (← e) (member-at R (position k (length R)) (position-below k (length R) (ros .some))));
-    last-may-leave = λ R s ros. last-push R s;
-    others-stay = λ k R r ros m i l two s n h. (let e : getD R (position k (length R)) 0 ≡ s = grind (arith, tells) in
-        let q = jump-same k R m (ros .distinct) l two (λ z. n (sym e ∙ z)) in
-        let q2 : getD (without m R) (position k (length (without m R))) 0 ≡ s = q ∙ e in
-        cond-true (eqb (getD (without m R) (position k (length (without m R))) 0) s) true false (eq-eqb _ _ q2));
-    untouched = λ k R r ros m i l two h. ap (λ (u : ℕ). u ∷ []) (jump-same k R m (ros .distinct) l two (λ z. grind (arith, tells))) }
+  greatest-fits = (omega arith, omega arith);
+  nearer-end = λ k R r. refl;
+  size = λ k R r ros. (let a : 1 ≤ length R = ros .some in omega arith);
+  apart = λ k R r ros. (refl, tt);
+  within = λ k R r ros s h. (let e : getD R (position k (length R)) 0 ≡ s = grind (arith, tells) in rw (← e) (member-at R (position k (length R)) (position-below k (length R) (ros .some))));
+  last-may-leave = λ R s ros. last-push R s;
+  others-stay = λ k R r ros m i l two s n h. (let e : getD R (position k (length R)) 0 ≡ s = grind (arith, tells) in
+      let q = jump-same k R m (ros .distinct) l two (λ z. n (sym e ∙ z)) in
+      let q2 : getD (without m R) (position k (length (without m R))) 0 ≡ s = q ∙ e in
+      cond-true (eqb (getD (without m R) (position k (length (without m R))) 0) s) true false (eq-eqb _ _ q2));
+  untouched = λ k R r ros m i l two h. ap (λ (u : ℕ). u ∷ []) (jump-same k R m (ros .distinct) l two (λ z. grind (arith, tells)));
+}
 
 -- the code's state, which wraps twice
 pub wrapped : (s : ℕ) → ((s * 2862933555777941757) % 2 ^ 64 + 1) % 2 ^ 64 ≡ next-state s

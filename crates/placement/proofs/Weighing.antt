@@ -31,6 +31,7 @@ all-numbered k (x ∷ R) h = (h x (here x R), all-numbered k R (λ s m. h s (beh
   where
     here : (x : ℕ) (R : List ℕ) → member x (x ∷ R) ≡ true
     here x R = grind (arith, tells)
+
     behind : (s x : ℕ) (R : List ℕ) → member s R ≡ true → member s (x ∷ R) ≡ true
     behind s x R m = grind (arith, tells)
 
@@ -41,4 +42,3 @@ weigh-more k i s w R room h l e q inv =
     let c : Candidate = record { weight = w; store = s } in
     let p : c ≡ candidate k (getD R i 0) = ap (λ (u : ℕ). record { weight = u; store = s }) q ∙ ap (candidate k) e in
     take-more-set room i c l ∙ ap (λ (u : List Candidate). u ++ c ∷ []) inv ∙ ap (λ (u : Candidate). map (candidate k) (take i R) ++ u ∷ []) p ∙ sym (map-more (candidate k) R i 0 h)
-

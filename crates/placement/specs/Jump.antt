@@ -36,6 +36,7 @@ is-last (x ∷ y ∷ R) m = is-last (y ∷ R) m
 -- only the last member may leave
 unfoldable pub jump : Rule
 jump = record {
-    greatest = 1;
-    list = λ k R r. getD R (position k (length R)) 0 ∷ [];
-    may-leave = is-last }
+  greatest = 1;
+  list = λ k R r. getD R (position k (length R)) 0 ∷ [];
+  may-leave = is-last;
+}

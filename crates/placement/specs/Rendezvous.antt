@@ -28,9 +28,10 @@ ahead k a b = cond (eqb (weight k a) (weight k b)) (leb a b) (ltb (weight k b) (
 -- any member may leave
 unfoldable pub rendezvous : Rule
 rendezvous = record {
-    greatest = 4;
-    list = λ k R r. take (nearest 4 r) (sort (ahead k) R);
-    may-leave = λ R s. true }
+  greatest = 4;
+  list = λ k R r. take (nearest 4 r) (sort (ahead k) R);
+  may-leave = λ R s. true;
+}
 
 -- what the list means without sorting: it is in order, and each store of it is ahead of every member that is not in it
 pub record Heaviest (k : ℕ) (R list : List ℕ) : Type 0 where

@@ -12,6 +12,9 @@ use crate::roster::Roster;
 
 const MULTIPLIER: u64 = 2862933555777941757;
 
+// The greatest number of copies.
+const GREATEST: usize = 1;
+
 // The position, among `len`, at which a key's walk ends.
 fn walk_end(key: u64, len: usize) -> usize
     requires { ⌜ 1 ≤ len ⌝ ∗ ⌜ len ≤ 16 ⌝ }
@@ -37,7 +40,7 @@ pub impl Placement for Jump as JumpPlacement {
     ghost rule = { λ _. jump-rule };
 
     fn greatest(&self) -> usize {
-        1
+        GREATEST
     }
 
     fn list(&self, key: u64, roster: &Roster, _copies: usize) -> Roster
@@ -46,7 +49,11 @@ pub impl Placement for Jump as JumpPlacement {
         ensures walks { λ r. ⌜ ((b : ℕ) × Walks (length (members (now (roster .entry)))) key 0 b × (members r ≡ getD (members (now (roster .entry))) b 0 ∷ [])) ⌝ }
     {
         let store = number_at(roster.word, walk_end(key, roster.len));
-        Roster { word: number_pushed(0, 0, store), len: 1, stores: roster.stores }
+        Roster {
+            word: number_pushed(0, 0, store),
+            len: 1,
+            stores: roster.stores,
+        }
     }
 
     fn may_leave(&self, roster: &Roster, store: usize) -> bool {

@@ -7,6 +7,7 @@ pub mod policy;
 pub mod rendezvous;
 pub mod roster;
 pub mod rosters;
+
 ghost use mathlib.Core.Path.{_≡_};
 ghost use mathlib.Core.List.{[], _∷_, _++_};
 ghost use Prim.Native.Nat.{ℕ, _+_, _<_, _≤_};

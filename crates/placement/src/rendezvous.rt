@@ -19,8 +19,13 @@ use order::select_first;
 
 // The multiplier and the increment of the weights' generator, which works modulo 2^31.
 const A: u64 = 1103515245;
+
 const B: u64 = 12345;
+
 const MODULUS: u64 = 2147483648;
+
+// The greatest number of copies.
+const GREATEST: usize = 4;
 
 // A store and its weight for a key.
 #[derive(Clone, Copy)]
@@ -66,7 +71,10 @@ fn weigh(key: u64, roster: &Roster, room: &mut [Candidate])
     let d = digest(key);
     for i in 0..roster.len {
         let store = number_at(roster.word, i);
-        room[i] = Candidate { weight: weight(d, store), store };
+        room[i] = Candidate {
+            weight: weight(d, store),
+            store,
+        };
     }
 }
 
@@ -96,14 +104,7 @@ fn heaviest(key: u64, roster: &Roster, count: usize, room: &mut [Candidate]) -> 
 fn list_len(copies: usize, members: usize) -> usize
     ensures { λ r. ⌜ r ≡ min (nearest 4 copies) members ⌝ }
 {
-    let wanted = if copies < 1 {
-        1
-    } else if copies < 4 {
-        copies
-    } else {
-        4
-    };
-    if wanted < members { wanted } else { members }
+    copies.min(GREATEST).max(1).min(members)
 }
 
 #[derive(Clone, Copy)]
@@ -113,7 +114,7 @@ pub impl Placement for Rendezvous as RendezvousPlacement {
     ghost rule = { λ _. rendezvous-rule };
 
     fn greatest(&self) -> usize {
-        4
+        GREATEST
     }
 
     fn list(&self, key: u64, roster: &Roster, copies: usize) -> Roster
@@ -123,9 +124,16 @@ pub impl Placement for Rendezvous as RendezvousPlacement {
     {
         let len = roster.len;
         let count = list_len(copies, len);
-        let mut room = [Candidate { weight: 0, store: 0 }; 16];
+        let mut room = [Candidate {
+            weight: 0,
+            store: 0,
+        }; 16];
         let word = heaviest(key, roster, count, &mut room[0..len]);
-        Roster { word, len: count, stores: roster.stores }
+        Roster {
+            word,
+            len: count,
+            stores: roster.stores,
+        }
     }
 
     fn may_leave(&self, _roster: &Roster, _store: usize) -> bool {

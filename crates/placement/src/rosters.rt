@@ -23,7 +23,11 @@ impl Roster {
         if members < 1 || stores < members || 16 < stores {
             return Err(RosterFault::Size);
         }
-        Ok(Roster { word: COUNT_UP, len: members, stores })
+        Ok(Roster {
+            word: COUNT_UP,
+            len: members,
+            stores,
+        })
     }
 
     // The number of stores, of which the members are some or all.
@@ -44,7 +48,11 @@ impl Roster {
     pub fn member(&self, position: usize) -> Option<usize>
         ensures { λ r. ⌜ r ≡ nth (members (now (self .entry))) position ⌝ }
     {
-        if position < self.len { Some(number_at(self.word, position)) } else { None }
+        if position < self.len {
+            Some(number_at(self.word, position))
+        } else {
+            None
+        }
     }
 
     // The position of a store, if it is a member.
@@ -78,7 +86,11 @@ impl Roster {
             return Err(RosterFault::AlreadyMember);
         }
         let word = number_pushed(self.word, self.len, store);
-        Ok(Roster { word, len: self.len + 1, stores: self.stores })
+        Ok(Roster {
+            word,
+            len: self.len + 1,
+            stores: self.stores,
+        })
     }
 
     // The roster without a member, the others in their order.
@@ -92,7 +104,11 @@ impl Roster {
                 if self.len < 2 {
                     return Err(RosterFault::OnlyMember);
                 }
-                Ok(Roster { word: number_cut(self.word, at), len: self.len - 1, stores: self.stores })
+                Ok(Roster {
+                    word: number_cut(self.word, at),
+                    len: self.len - 1,
+                    stores: self.stores,
+                })
             }
         }
     }

@@ -15,10 +15,12 @@ returns c =
     let p = rule-of (q .policy) in
     let R = members-of (c .whole-roster .result) in
     let S = members-of (c .remaining-rest .result) in
-    let ks = vec-items (q .keys) in
-    ( q, c .in-Continue-question .ensures tt
-    , c .in-Continue-write-lines .ensures tt
-      ∙ ap (λ (u : Text). u ++ lines p (q .copies) R S (c .as-slice .result .now)) (c .new-text .ensures .bytes)
-      ∙ ap (λ (l : List ℕ). lines p (q .copies) R S l) (c .as-slice .ensures .value)
-      ∙ ap (λ (l : List ℕ). lines p (q .copies) l S ks) (c .whole-roster .ensures)
-      ∙ ap (λ (l : List ℕ). lines p (q .copies) (count-up 0 (q .members)) l ks) (c .remaining-rest .ensures) )
+    let ks = vec-items (q .keys) in (
+      q,
+      c .in-Continue-question .ensures tt,
+      c .in-Continue-write-lines .ensures tt
+          ∙ ap (λ (u : Text). u ++ lines p (q .copies) R S (c .as-slice .result .now)) (c .new-text .ensures .bytes)
+          ∙ ap (λ (l : List ℕ). lines p (q .copies) R S l) (c .as-slice .ensures .value)
+          ∙ ap (λ (l : List ℕ). lines p (q .copies) l S ks) (c .whole-roster .ensures)
+          ∙ ap (λ (l : List ℕ). lines p (q .copies) (count-up 0 (q .members)) l ks) (c .remaining-rest .ensures),
+    )

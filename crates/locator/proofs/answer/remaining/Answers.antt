@@ -10,4 +10,4 @@ pub returns-in-Some : need.returns-in-Some
 returns-in-Some c =
     ap members-of (c .ok .ensures .value)
     ∙ left-over (c .without .result) (c .args .members) (c .pre .0)
-      (c .without .ensures .lists ∙ ap (λ (R : List ℕ). without-store (c .args .members - 1) R) (c .in-Some .ensures tt))
+    (c .without .ensures .lists ∙ ap (λ (R : List ℕ). without-store (c .args .members - 1) R) (c .in-Some .ensures tt))

@@ -20,7 +20,7 @@ loop-key-again c =
     let i = c .loop-key .key-index in
     let old = string-bytes (c .loop-key .out) in
     one-more old (string-bytes (c .write-line .last .out)) (line p (c .args .copies) R S (getD ks i 0)) (lines p (c .args .copies) R S (drop (i + 1) ks)) _ (c .in-Continue-write-line .ensures tt)
-      (ap (λ (l : List ℕ). old ++ lines p (c .args .copies) R S l) (sym (drop-more ks i 0 (c .loop-key-test .taken))) ∙ c .loop-key .inv)
+    (ap (λ (l : List ℕ). old ++ lines p (c .args .copies) R S l) (sym (drop-more ks i 0 (c .loop-key-test .taken))) ∙ c .loop-key .inv)
 
 pub returns : need.returns
 returns c =

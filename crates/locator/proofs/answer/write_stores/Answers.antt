@@ -22,7 +22,7 @@ loop-i-again c =
     let h : i < length L = (let e = c .len-i-end .ensures .0 in omega arith) in
     let at = store-at L i s (c .member-in-loop-i .result) h (c .member-in-loop-i .ensures) (c .unwrap-or-store .ensures) in
     one-more old (string-bytes (c .write-in-loop-i .last .self)) (codes "," ++ decimal s) (more-stores (drop (i + 1) L)) _ (c .in-Continue-write-2 .ensures tt .bytes)
-      (ap (λ (u : Text). old ++ u) (sym (stores-more L i s h at)) ∙ c .loop-i .inv)
+    (ap (λ (u : Text). old ++ u) (sym (stores-more L i s h at)) ∙ c .loop-i .inv)
 
 pub returns : need.returns
 returns c =
@@ -36,4 +36,4 @@ returns c =
     let at = store-at L 0 s (c .member .result) some (c .member .ensures) (c .unwrap-or-first .ensures) in
     sym (append-nil out) ∙ ap (λ (l : List ℕ). out ++ more-stores l) (sym (drop-all i L past)) ∙ c .loop-i .inv
     ∙ one-more before (string-bytes (c .write .last .self)) (decimal s) (more-stores (drop 1 L)) _ (c .in-Continue-write .ensures tt .bytes)
-      (ap (λ (u : Text). before ++ u) (joined-parts L s some at))
+    (ap (λ (u : Text). before ++ u) (joined-parts L s some at))

@@ -20,7 +20,7 @@ returns-in-Break-key c =
     let f = c .in-Break-key .field-0 .0 in
     let h = c .in-Break-key .ensures tt in
     handed-up (c .from-residual .result) (Word f) _ (No-key ws) (c .from-residual .ensures .1)
-      (no-key (f .reason) ws (c .loop-place .place) (f .place) (omega arith) (omega arith) (h .0) (h .1) (c .loop-place .inv .1))
+    (no-key (f .reason) ws (c .loop-place .place) (f .place) (omega arith) (omega arith) (h .0) (h .1) (c .loop-place .inv .1))
 
 pub loop-place-again : need.loop-place-again
 loop-place-again c =
@@ -28,9 +28,10 @@ loop-place-again c =
     let l = length-texts (c .args .words .now) in
     let i = c .loop-place .place in
     let key = c .in-Continue-key .key in
-    let w = c .in-Continue-key .ensures tt .1 in
-    ( keys-more (vec-items (c .loop-place .keys)) (vec-items (c .push .last .self)) ws (drop 3 ws) i key (omega arith) (c .in-Continue-push .ensures tt .items) (w .1) (c .loop-place .inv .0)
-    , λ j a b. elim (cases-eq j i) [ inl e ↦ subst (λ (u : ℕ). (n : ℕ) × Writes (getD ws u []) n) (sym e) (key, w) | inr q ↦ c .loop-place .inv .1 j a (grind arith) ] )
+    let w = c .in-Continue-key .ensures tt .1 in (
+      keys-more (vec-items (c .loop-place .keys)) (vec-items (c .push .last .self)) ws (drop 3 ws) i key (omega arith) (c .in-Continue-push .ensures tt .items) (w .1) (c .loop-place .inv .0),
+      λ j a b. elim (cases-eq j i) [ inl e ↦ subst (λ (u : ℕ). (n : ℕ) × Writes (getD ws u []) n) (sym e) (key, w) | inr q ↦ c .loop-place .inv .1 j a (grind arith) ],
+    )
 
 pub returns : need.returns
 returns c =

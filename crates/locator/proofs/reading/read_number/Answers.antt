@@ -30,9 +30,11 @@ returns c =
     let w = c .args .word .now in
     let e : c .as-bytes-bytes .result .now ≡ w = c .as-bytes-bytes .ensures .value in
     let plus : getD w 0 0 ≡ 43 → ⊥ = λ h. elim (c .else-bytes-gt0 .came) [
-          else-bytes-gt0·by·then-bytes-gt0·else-bytes-eq43 v ↦ v .if-bytes-eq43 .left (ap (λ (u : List ℕ). getD u 0 0) e ∙ h)
-        | else-bytes-gt0·by·else-bytes-gt0 v ↦ none-first w (let l = ap length e in omega (arith, v .if-bytes-gt0 .left)) h ] in
+      | else-bytes-gt0·by·then-bytes-gt0·else-bytes-eq43 v ↦ v .if-bytes-eq43 .left (ap (λ (u : List ℕ). getD u 0 0) e ∙ h)
+      | else-bytes-gt0·by·else-bytes-gt0 v ↦ none-first w (let l = ap length e in omega (arith, v .if-bytes-gt0 .left)) h
+    ] in
     let zero-first : 1 < length w → getD w 0 0 ≡ 48 → ⊥ = λ l h. elim (c .else-bytes-gt1 .came) [
-          else-bytes-gt1·by·then-bytes-gt1·else-bytes-eq48 v ↦ v .if-bytes-eq48 .left (ap (λ (u : List ℕ). getD u 0 0) e ∙ h)
-        | else-bytes-gt1·by·else-bytes-gt1 v ↦ (let l2 = ap length e in omega (arith, v .if-bytes-gt1 .left)) ] in
+      | else-bytes-gt1·by·then-bytes-gt1·else-bytes-eq48 v ↦ v .if-bytes-eq48 .left (ap (λ (u : List ℕ). getD u 0 0) e ∙ h)
+      | else-bytes-gt1·by·else-bytes-gt1 v ↦ (let l2 = ap length e in omega (arith, v .if-bytes-gt1 .left))
+    ] in
     subst (λ (o : Option ℕ). Cases o ((n : ℕ) → Writes w n → ⊥) (λ n. Writes w n)) (sym (c .ok .ensures .value)) (parsed w (c .parse .result) (c .parse .ensures .reads .0) plus zero-first)

@@ -10,9 +10,10 @@ abbrev after : ℕ → ℕ
 after s = ((s * 2862933555777941757) % 2 ^ 64 + 1) % 2 ^ 64
 
 pub loop-key-again : need.loop-key-again
-loop-key-again c =
-    ( c .if-next-end .left
-    , turn-on (c .args .len) (c .loop-key .state) (c .loop-key .at) (after (c .loop-key .state)) (wrapped (c .loop-key .state)) (c .loop-key .inv .0) (c .if-next-end .left) ∙ c .loop-key .inv .1 )
+loop-key-again c = (
+  c .if-next-end .left,
+  turn-on (c .args .len) (c .loop-key .state) (c .loop-key .at) (after (c .loop-key .state)) (wrapped (c .loop-key .state)) (c .loop-key .inv .0) (c .if-next-end .left) ∙ c .loop-key .inv .1,
+)
 
 pub loop-key-less : need.loop-key-less
 loop-key-less c =
@@ -20,6 +21,7 @@ loop-key-less c =
     omega (arith, u, c .loop-key .inv .0, c .if-next-end .left)
 
 pub returns-then-next-end : need.returns-then-next-end
-returns-then-next-end c =
-    ( sym (turn-off (c .args .len) (c .loop-key .state) (c .loop-key .at) (after (c .loop-key .state)) (wrapped (c .loop-key .state)) (c .loop-key .inv .0) (c .if-next-end .taken)) ∙ c .loop-key .inv .1
-    , c .loop-key .inv .0 )
+returns-then-next-end c = (
+  sym (turn-off (c .args .len) (c .loop-key .state) (c .loop-key .at) (after (c .loop-key .state)) (wrapped (c .loop-key .state)) (c .loop-key .inv .0) (c .if-next-end .taken)) ∙ c .loop-key .inv .1,
+  c .loop-key .inv .0,
+)

@@ -21,7 +21,7 @@ packed-requires c κs =
     let n = length-members r in
     let l = length-shuffled (c .weigh .last .room) (c .select-first .last .items) (c .select-first .ensures .rearranged) in
     let a : All Numbered (c .weigh .last .room) =
-          subst (λ (u : List Candidate). All Numbered u) (sym (c .weigh .ensures)) (all-numbered (c .args .key) R (members-rostered-16 r .below)) in
+    subst (λ (u : List Candidate). All Numbered u) (sym (c .weigh .ensures)) (all-numbered (c .args .key) R (members-rostered-16 r .below)) in
     (omega arith, (omega arith, all-shuffled Numbered (c .weigh .last .room) (c .select-first .last .items) (c .select-first .ensures .rearranged) a))
 
 pub returns : need.returns

@@ -24,7 +24,7 @@ loop-i-again c =
     let i = c .loop-i .i in
     let h : i < r .len = omega arith in
     weigh-more (c .args .key) i (c .number-at-store .result) (c .weight .result) R (c .loop-i .room) (omega arith) (omega arith)
-      (c .number-at-store .ensures .1 (r .len) h) (c .weight .ensures ∙ ap (λ (d : ℕ). weight-at d (c .number-at-store .result)) (c .digest-d .ensures .0)) (c .loop-i .inv)
+    (c .number-at-store .ensures .1 (r .len) h) (c .weight .ensures ∙ ap (λ (d : ℕ). weight-at d (c .number-at-store .result)) (c .digest-d .ensures .0)) (c .loop-i .inv)
 
 pub returns : need.returns
 returns c =

@@ -20,7 +20,7 @@ ghost-result c =
     let l = length-unpack (r .word) (r .len) in
     let e : c .number-at-store .result ≡ getD (unpack (r .word) (r .len)) at 0 = c .number-at-store .ensures .1 (r .len) inside in
     let low : c .number-at-store .result < r .stores =
-          subst (λ (x : ℕ). x < r .stores) (sym e) (r .below (getD (unpack (r .word) (r .len)) at 0) (member-at (unpack (r .word) (r .len)) at (omega arith))) in
+    subst (λ (x : ℕ). x < r .stores) (sym e) (r .below (getD (unpack (r .word) (r .len)) at 0) (member-at (unpack (r .word) (r .len)) at (omega arith))) in
     kept (c .number-pushed .result) 1 (r .stores) (c .number-at-store .result ∷ []) (r .few) (c .number-pushed .ensures) (alone-rostered (r .stores) (c .number-at-store .result) low)
 
 pub returns : need.returns
@@ -31,10 +31,11 @@ returns c =
     let at = c .walk-end .result in
     let e : at ≡ position (c .args .key) (length R) = c .walk-end .ensures .0 ∙ ap (position (c .args .key)) (sym (length-unpack (r .word) (r .len))) in
     let listed : unpack (c .number-pushed .result) 1 ≡ getD R (position (c .args .key) (length R)) 0 ∷ [] =
-          c .number-pushed .ensures ∙ ap (λ (u : ℕ). u ∷ []) (c .number-at-store .ensures .1 (r .len) (c .walk-end .ensures .1) ∙ ap (λ (u : ℕ). getD R u 0) e) in
+    c .number-pushed .ensures ∙ ap (λ (u : ℕ). u ∷ []) (c .number-at-store .ensures .1 (r .len) (c .walk-end .ensures .1) ∙ ap (λ (u : ℕ). getD R u 0) e) in
     let some : 1 ≤ r .len = r .some in
     let l = length-unpack (r .word) (r .len) in
     record {
       follows-rule = listed;
       stores-kept = refl;
-      walks = (position (c .args .key) (length R), position-walks (c .args .key) (length R) (omega arith), listed) }
+      walks = (position (c .args .key) (length R), position-walks (c .args .key) (length R) (omega arith), listed);
+    }

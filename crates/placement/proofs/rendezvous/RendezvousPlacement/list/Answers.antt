@@ -37,7 +37,7 @@ ghost-result c =
     let some : 1 ≤ r .len = r .some in
     let e = c .list-len-count .ensures in
     kept (c .heaviest-word .result) count (r .stores) (take count (sort (ahead (c .args .key)) (members r))) (r .few) (c .heaviest-word .ensures)
-      (firsts-rostered (ahead (c .args .key)) (ahead-ordered (c .args .key)) (r .stores) count (members r) (omega arith) (members-rostered r))
+    (firsts-rostered (ahead (c .args .key)) (ahead-ordered (c .args .key)) (r .stores) count (members r) (omega arith) (members-rostered r))
 
 pub returns : need.returns
 unfolding rendezvous members
@@ -48,4 +48,5 @@ returns c =
     record {
       follows-rule = e;
       stores-kept = refl;
-      heaviest = heaviest-listed k (members r) (c .args .copies) _ e }
+      heaviest = heaviest-listed k (members r) (c .args .copies) _ e;
+    }

@@ -20,4 +20,5 @@ returns c =
     let few : m ≤ 16 = omega arith in
     record {
       lists = ap Ok (count-up-word m few) ∙ sym (first-accepts m (c .args .stores) (c .if-members-lt1 .left) (c .if-stores-members .left) (c .if-stores-gt16 .left));
-      stores-held = refl }
+      stores-held = refl;
+    }

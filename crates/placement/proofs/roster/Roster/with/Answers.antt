@@ -23,7 +23,7 @@ unfolding members
 ghost-result c =
     let r = c .args .self .now in
     kept (c .number-pushed-word .result) (r .len + 1) (r .stores) (members r ++ c .args .store ∷ []) (r .few) (c .number-pushed-word .ensures)
-      (push-roster (r .stores) (members r) (c .args .store) (members-rostered r) (sym (c .if-contains .ensures tt)) (c .if-store-self .left))
+    (push-roster (r .stores) (members r) (c .args .store) (members-rostered r) (sym (c .if-contains .ensures tt)) (c .if-store-self .left))
 
 pub returns : need.returns
 unfolding members
@@ -31,4 +31,5 @@ returns c =
     let r = c .args .self .now in
     record {
       lists = ap Ok (c .number-pushed-word .ensures) ∙ sym (with-accepts (r .stores) (c .args .store) (members r) (c .if-store-self .left) (sym (c .if-contains .ensures tt)));
-      stores-held = refl }
+      stores-held = refl;
+    }

@@ -50,8 +50,8 @@ ghost-result c =
     let s = c .args .store in
     let l = length-members r in
     kept (c .number-cut .result) (r .len - 1) (r .stores) (lists.without s (members r)) (r .few)
-      (taken r s (c .in-Some .at) (c .number-cut .result) (c .if-self-lt2 .left) (c .in-Some .ensures tt) (c .number-cut .ensures))
-      (without-roster (r .stores) (members r) s (members-rostered r) (found r s (c .in-Some .at) (c .in-Some .ensures tt)) (omega arith))
+    (taken r s (c .in-Some .at) (c .number-cut .result) (c .if-self-lt2 .left) (c .in-Some .ensures tt) (c .number-cut .ensures))
+    (without-roster (r .stores) (members r) s (members-rostered r) (found r s (c .in-Some .at) (c .in-Some .ensures tt)) (omega arith))
 
 pub returns-in-None : need.returns-in-None
 returns-in-None c =
@@ -66,5 +66,6 @@ returns-else-self-lt2 c =
     let l = length-members r in
     record {
       lists = ap Ok (taken r s (c .in-Some .at) (c .number-cut .result) (c .if-self-lt2 .left) (c .in-Some .ensures tt) (c .number-cut .ensures))
-        ∙ sym (without-accepts s (members r) (found r s (c .in-Some .at) (c .in-Some .ensures tt)) (omega arith));
-      stores-held = refl }
+          ∙ sym (without-accepts s (members r) (found r s (c .in-Some .at) (c .in-Some .ensures tt)) (omega arith));
+      stores-held = refl;
+    }
