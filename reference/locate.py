@@ -4,6 +4,7 @@
 Written from docs/placement.md alone; it shares no code or table with the crates.
 
     reference/locate.py rendezvous 5 2 0      prints what `locate rendezvous 5 2 0` must print
+    reference/locate.py --cases < questions   answers a question for each line
 """
 import sys
 
@@ -40,8 +41,38 @@ def line(policy, members, copies, key):
     return f"{key} {shown[0]} {shown[1]}"
 
 
+def number(word):
+    """The number that a word writes, below 2^64 and without leading zeros, or none."""
+    if not word or any(c not in "0123456789" for c in word) or (len(word) > 1 and word[0] == "0"):
+        return None
+    return int(word) if int(word) < 2**64 else None
+
+
+def answer(words):
+    """The lines for a question, or the refusal of its first wrong word."""
+    parts = ["POLICY", "MEMBERS", "COPIES", "KEY"]
+    numbers = []
+    for place in range(max(len(words), 4)):
+        part = parts[min(place, 3)]
+        if place >= len(words):
+            return [f"{part} is missing"]
+        if place == 0:
+            if words[0] not in ("rendezvous", "jump"):
+                return [f"{part} is neither rendezvous nor jump"]
+            continue
+        n = number(words[place])
+        if n is None:
+            return [f"{part} is not a number of 64 bits"]
+        if place == 1 and not 1 <= n <= 16:
+            return [f"{part} is not from 1 to 16"]
+        numbers.append(n)
+    policy = {"rendezvous": rendezvous, "jump": jump}[words[0]]
+    return [line(policy, numbers[0], numbers[1], key) for key in numbers[2:]]
+
+
 if __name__ == "__main__":
-    policy = {"rendezvous": rendezvous, "jump": jump}[sys.argv[1]]
-    members, copies = int(sys.argv[2]), int(sys.argv[3])
-    for key in sys.argv[4:]:
-        print(line(policy, members, copies, int(key)))
+    if sys.argv[1:] == ["--cases"]:
+        for question in sys.stdin.read().splitlines():
+            print("\n".join(answer(question.split(" "))))
+    else:
+        print("\n".join(answer(sys.argv[1:])))

@@ -18,7 +18,7 @@ pub struct Question {
 }
 
 // Why a word is refused.
-#[derive(Clone, Copy, PartialEq, Eq, Debug)]
+#[derive(Clone, Copy)]
 pub enum Reason {
     Missing,
     NotAPolicy,
@@ -27,13 +27,13 @@ pub enum Reason {
 }
 
 // The first word that is wrong, by its place from 0.
-#[derive(Clone, Copy, PartialEq, Eq, Debug)]
+#[derive(Clone, Copy)]
 pub struct WordFault {
     pub place: usize,
     pub reason: Reason,
 }
 
-#[derive(Clone, Copy, PartialEq, Eq, Debug)]
+#[derive(Clone, Copy)]
 pub enum LocateFault {
     Word(WordFault),
     Memory,

@@ -1,5 +1,3 @@
-// Examples of rosters, selection and placements, and the lines of `locate` beside those of another program.
-#[cfg(test)]
-mod lines;
+// Examples of rosters, selection and placements.
 #[cfg(test)]
 mod rosters;
