@@ -1,0 +1,6 @@
+// What a key maps to: two words.
+#[derive(Clone, Copy, PartialEq, Eq, Debug)]
+pub struct Value {
+    pub a: u64,
+    pub b: u64,
+}
