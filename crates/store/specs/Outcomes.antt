@@ -10,7 +10,7 @@ use Rattle.pairs.specs.Pairs.{Pair, insert, erase, has}
 use Rattle.store.specs.declared.Put.{Put}
 use Rattle.store.specs.declared.Put.the-variants.{New, Replaced}
 use Rattle.store.specs.declared.fault.StoreFault.{StoreFault}
-use Rattle.store.specs.declared.fault.StoreFault.the-variants.{BeyondLimit, Full, HoldsPair}
+use Rattle.store.specs.declared.fault.StoreFault.the-variants.{BeyondLimit, BadImage, Full, HoldsPair}
 use Rattle.store.specs.declared.value.Value.{Value}
 use Rattle.store.specs.Meaning.{Meaning}
 
@@ -36,5 +36,6 @@ erase-meaning m k = record { pairs = erase (m .pairs) k; cap = m .cap }
 -- the number of each refusal
 abbrev pub fault-number : StoreFault → ℕ
 fault-number BeyondLimit = 2
+fault-number BadImage = 3
 fault-number Full = 4
 fault-number HoldsPair = 6

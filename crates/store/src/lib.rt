@@ -33,6 +33,7 @@ impl StoreFault {
     {
         match self {
             StoreFault::BeyondLimit => 2,
+            StoreFault::BadImage => 3,
             StoreFault::Full => 4,
             StoreFault::HoldsPair => 6,
         }

@@ -1,0 +1,4 @@
+pub mod Tape
+pub mod Moves
+pub mod Image
+pub mod Laws
