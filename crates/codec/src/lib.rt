@@ -104,4 +104,6 @@ impl Trailer {
 // statement.
 pub fn codecs_are_inverse()
     ensures { λ _. ⌜ Codec-laws ⌝ }
-{}
+{
+    // The statement is the contract: there is nothing to do.
+}

@@ -9,4 +9,6 @@ pub fn logs_obey_their_laws()
     ensures compaction_keeps_the_last_puts { λ _. ⌜ Compacting ⌝ }
     ensures nothing_is_written_behind { λ _. ⌜ Behind ⌝ }
     ensures images_open_to_what_they_say { λ _. ⌜ Imaging ⌝ }
-{}
+{
+    // The statement is the contract: there is nothing to do.
+}
