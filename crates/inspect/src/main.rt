@@ -1,5 +1,4 @@
 // Prints what the image in a file holds: `inspect FILE`.
-use inspection::InspectFaultFromStore;
 use inspection::ROOM;
 use inspection::describe;
 use inspection::fault::InspectFault;

@@ -397,6 +397,7 @@ impl<'a> Log<'a> {
         ensures bytes_stay { λ r. ⌜ now (r .bytes) ≡ now (bytes .entry) ⌝ }
         ensures records_in_use { λ r. ⌜ r .used ≡ slots n ⌝ }
         ensures cap_is_read { λ r. ⌜ r .cap ≡ opened-cap (now (bytes .entry)) n ⌝ }
+        ensures holds_what_the_records_say { λ r. ⌜ pairs-of (tape (now (r .bytes)) (r .used)) ≡ held (records (now (bytes .entry)) (slots n)) ⌝ }
         ensures legal_image_stands { λ r. ⌜ (Legal-image (now (bytes .entry)) n → Standing (tape (now (r .bytes)) (r .used)) (r .cap)) ⌝ }
         ensures stands_where_accepted { λ r. ⌜ (is-image (now (bytes .entry)) n ≡ true → Standing (tape (now (r .bytes)) (r .used)) (r .cap)) ⌝ }
         ensures falls_where_refused { λ r. ⌜ (is-image (now (bytes .entry)) n ≡ false → Standing (tape (now (r .bytes)) (r .used)) (r .cap) → ⊥) ⌝ }

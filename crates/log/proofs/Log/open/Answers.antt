@@ -4,7 +4,7 @@ use borrow.Author.Needs.{needs}
 use Rattle.std.proofs.shelf.Tests.{cond-true, cond-false}
 use Rattle.codec.specs.declared.Trailer.{Trailer}
 use Rattle.codec.specs.Words.{Bytes}
-use Rattle.log_theory.specs.Tape.{tape, Standing}
+use Rattle.log_theory.specs.Tape.{tape, records, held, Standing}
 use Rattle.log_theory.specs.Image.{opened-cap, image-tape, is-image}
 use Rattle.log_theory.proofs.Images.{image-within, image-stands, image-falls, legal-is-accepted}
 use Rattle.log.proofs.Log.open.Needs as need
@@ -30,6 +30,7 @@ returns c =
       bytes-stay = refl;
       records-in-use = u;
       cap-is-read = e;
+      holds-what-the-records-say = ap (λ z. held (records bs z)) u;
       legal-image-stands = λ h. stands (legal-is-accepted bs n h);
       stands-where-accepted = stands;
       falls-where-refused = λ h s. image-falls bs n h (subst (Standing (image-tape bs n)) e (subst (λ z. Standing (tape bs z) (c .if-holds-image .cap)) u s));

@@ -1,0 +1,4 @@
+pub mod Kinds
+pub mod Calibrations
+pub mod Readings
+pub mod Figures

@@ -1,0 +1,9 @@
+pub mod Rosters
+pub mod Rows
+pub mod Calls
+pub mod Steps
+pub mod Changes
+pub mod Agreeing
+pub mod Openings
+pub mod Counting
+pub mod Reading

@@ -1,0 +1,9 @@
+pub mod Faults
+pub mod Books
+pub mod Outcomes
+pub mod Lists
+pub mod OneMap
+pub mod Lent
+pub mod Holds
+pub mod Laws
+pub mod Statements

@@ -1,0 +1,3 @@
+pub mod Lists
+pub mod Keys
+pub mod Moves
