@@ -1,3 +1,0 @@
-pub mod Members
-pub mod Fronts
-pub mod Places
