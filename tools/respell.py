@@ -9,7 +9,7 @@ import sys
 
 NAME = re.compile(r"[A-Za-z_0-9'\u2080-\u2089\u0370-\u03ff\u2115\u2124-]+")
 DECL = re.compile(
-    r"\s*(?:abbrev pub|unfoldable pub|pub record|pub data|pub|abbrev|unfoldable|record|data)?\s*"
+    r"\s*(?:(?:abbrev pub|unfoldable pub|pub record|pub data|pub|abbrev|unfoldable|record|data)\s+)?"
     r"([^\s(){}:;,.«»λ]+)\s*(?:\(.*)?:"
 )
 # names that the rule alone would spell badly

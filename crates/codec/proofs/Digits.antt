@@ -53,9 +53,9 @@ pub word_le : (x : ℕ) → x < 2 ^ 64 → word_at (le x) 0 ≡ x
 unfolding word_at le
 word_le x h = digits x h
 
-pub record-read-back : (r : Record) → FitsRecord r → decoded (encoded r) ≡ r
+pub record_read_back : (r : Record) → FitsRecord r → decoded (encoded r) ≡ r
 unfolding word_at le
-record-read-back r f = same_record _ r (digits r.key f.key_fits) (digits r.a f.a_fits) (digits r.b f.b_fits) (digits r.kind f.kind_fits)
+record_read_back r f = same_record _ r (digits r.key f.key_fits) (digits r.a f.a_fits) (digits r.b f.b_fits) (digits r.kind f.kind_fits)
 
 pub trailer_read_back : (t : Trailer) → FitsTrailer t → trailer_decoded (trailer_encoded t) ≡ t
 unfolding word_at le
@@ -124,8 +124,8 @@ trailer_written_back ws h e =
     ∙ ap (λ z. take 8 (drop 0 ws) ++ z) (word_written_back ws 8 h (omega arith) ∙ last_eight ws 8 (omega arith))
     ∙ next_eight ws 0
 
-pub record-written-back : (ws : List ℕ) → Bytes ws → length ws ≡ 32 → encoded (decoded ws) ≡ ws
-record-written-back ws h e =
+pub record_written_back : (ws : List ℕ) → Bytes ws → length ws ≡ 32 → encoded (decoded ws) ≡ ws
+record_written_back ws h e =
     let w0 = word_written_back ws 0 h (omega arith) in
     let w1 = word_written_back ws 8 h (omega arith) in
     let w2 = word_written_back ws 16 h (omega arith) in
@@ -139,8 +139,8 @@ codec_laws =
     record {
       word_read_back = word_le;
       word_written_back = word_written_back;
-      record-read-back = record-read-back;
-      record-written-back = record-written-back;
+      record_read_back = record_read_back;
+      record_written_back = record_written_back;
       trailer_read_back = trailer_read_back;
       trailer_written_back = trailer_written_back;
     }

@@ -15,10 +15,10 @@ use Rattle.codec.proofs.Overs.{length_over, drop_over}
 use Rattle.codec.proofs.Digits.{length_encoded}
 use Rattle.log_theory.specs.Tape.{Tape, record_at, records, is_put, value_of, put_record, removal, held, pairs_of, legal, all_legal, slots, greatest_cap, allowed, AllFit, Standing}
 use Rattle.log_theory.specs.Moves.{stays, packed, stay_count, stayers, compacted, roomed, appended, put_tape, remove_tape}
-use Rattle.log_theory.proofs.Slots.{records-more, records-front, record-over}
+use Rattle.log_theory.proofs.Slots.{records_more, records_front, record_over}
 use Rattle.log_theory.proofs.Holds.{held_ascends, found_fits}
 use Rattle.log_theory.proofs.Counts.{count_step}
-use Rattle.log_theory.proofs.Packs.{records-packed, pairs_compacted, used_compacted, length_packed, stay_count_most}
+use Rattle.log_theory.proofs.Packs.{records_packed, pairs_compacted, used_compacted, length_packed, stay_count_most}
 
 pub slots_end : (n : ℕ) → 0 < slots n → 32 * slots n + 16 ≤ n
 slots_end n h = omega arith
@@ -89,8 +89,8 @@ roomy t c s =
       long = length_over bs 0 (packed bs n n) (omega arith);
       free = slot_is_free t c s;
       same = pairs_compacted t h;
-      lawful = ap all_legal (records-packed bs n n h) ∙ stayers_legal bs n n;
-      words_fit = subst AllFit (sym (records-packed bs n n h)) (stayers_fit bs n n s.words_fit);
+      lawful = ap all_legal (records_packed bs n n h) ∙ stayers_legal bs n n;
+      words_fit = subst AllFit (sym (records_packed bs n n h)) (stayers_fit bs n n s.words_fit);
     })
 
 -- an appended record decides its key
@@ -108,7 +108,7 @@ appended_stands t c r s f g l =
     let new = (appended t r).bytes in
     let ln : length new ≡ length bs = length_over cs (32 * u) (encoded r) (omega arith) ∙ lq in
     let rs : records new (u + 1) ≡ r ∷ records cs u =
-    records-more new u ∙ ap (λ z. z ∷ records new u) (record-over cs u r (omega arith) f) ∙ ap (λ z. r ∷ z) (records-front cs (32 * u) (encoded r) u (omega arith) (omega arith)) in
+    records_more new u ∙ ap (λ z. z ∷ records new u) (record_over cs u r (omega arith) f) ∙ ap (λ z. r ∷ z) (records_front cs (32 * u) (encoded r) u (omega arith) (omega arith)) in
     let hs : held (records new (u + 1)) ≡ held (r ∷ records bs t.used) =
     ap held rs ∙ ap (λ ps. cond (is_put r) (insert ps r.key (value_of r)) (erase ps r.key)) q.same in (
       record {

@@ -6,7 +6,7 @@ use Rattle.pairs.proofs.Maps.{length_insert, length_erase}
 use Rattle.store.specs.declared.value.Value.{Value}
 use Rattle.codec.specs.declared.Record.{Record}
 use Rattle.log_theory.specs.Tape.{record_at, records, is_put, value_of, held}
-use Rattle.log_theory.proofs.Slots.{records-more}
+use Rattle.log_theory.proofs.Slots.{records_more}
 use Rattle.log_theory.proofs.Holds.{held_ascends}
 
 -- a put adds a key that is absent, any other record takes one away that is there
@@ -29,7 +29,7 @@ module _ (bs : List ℕ) (i : ℕ) (r : Record) (e : r ≡ record_at bs i) (o : 
   loop_step : length (held (records bs (i + 1))) + cond (is_put r) 0 (cond b 1 0) ≡ length (held (records bs i)) + cond (is_put r) (cond b 0 1) 0
   loop_step =
       let h : has (held (records bs i)) r.key ≡ b = ap is_some (sym f) ∙ sym g in
-      ap (λ z. length (held z) + cond (is_put r) 0 (cond b 1 0)) (records-more bs i ∙ ap (λ z. z ∷ records bs i) (sym e))
+      ap (λ z. length (held z) + cond (is_put r) 0 (cond b 1 0)) (records_more bs i ∙ ap (λ z. z ∷ records bs i) (sym e))
       ∙ ap (λ z. length (held (r ∷ records bs i)) + cond (is_put r) 0 (cond z 1 0)) (sym h)
       ∙ count_step r (records bs i) ∙ ap (λ z. length (held (records bs i)) + cond (is_put r) (cond z 0 1) 0) h
 

@@ -9,7 +9,7 @@ use Rattle.codec.specs.declared.Record.{Record}
 use Rattle.codec.specs.Records.{FitsRecord}
 use Rattle.log_theory.specs.Tape.{record_at, records, is_put, value_of, own, held, legal, all_legal, AllFit}
 use Rattle.log_theory.specs.Laws.{NoneLater}
-use Rattle.log_theory.proofs.Slots.{records-more}
+use Rattle.log_theory.proofs.Slots.{records_more}
 
 pub held_ascends : (rs : List Record) → Ascending (held rs)
 held_ascends [] = tt
@@ -31,7 +31,7 @@ find_held r rs j =
 module _ (bs : List ℕ) (i k : ℕ) (r : Record) (l : 0 < i) (e : r ≡ record_at bs (i - 1)) where
   step : find (held (records bs i)) k ≡ cond (eqb r.key k) (own r) (find (held (records bs (i - 1))) k)
   step =
-      ap (λ m. find (held (records bs m)) k) (let z : i ≡ i - 1 + 1 = omega arith in z) ∙ ap (λ z. find (held z) k) (records-more bs (i - 1))
+      ap (λ m. find (held (records bs m)) k) (let z : i ≡ i - 1 + 1 = omega arith in z) ∙ ap (λ z. find (held z) k) (records_more bs (i - 1))
       ∙ find_held (record_at bs (i - 1)) (records bs (i - 1)) k ∙ ap (λ (x : Record). cond (eqb x.key k) (own x) (find (held (records bs (i - 1))) k)) (sym e)
 
   pub walk_met : r.key ≡ k → own r ≡ find (held (records bs i)) k
@@ -43,7 +43,7 @@ module _ (bs : List ℕ) (i k : ℕ) (r : Record) (l : 0 < i) (e : r ≡ record_
 -- the same walk, for legal records
 pub legal_step : (bs : List ℕ) (i : ℕ) (r : Record) → 0 < i → r ≡ record_at bs (i - 1) → all_legal (records bs i) ≡ (legal r && all_legal (records bs (i - 1)))
 legal_step bs i r l e =
-    ap (λ m. all_legal (records bs m)) (let z : i ≡ i - 1 + 1 = omega arith in z) ∙ ap all_legal (records-more bs (i - 1)) ∙ ap (λ (x : Record). legal x && all_legal (records bs (i - 1))) (sym e)
+    ap (λ m. all_legal (records bs m)) (let z : i ≡ i - 1 + 1 = omega arith in z) ∙ ap all_legal (records_more bs (i - 1)) ∙ ap (λ (x : Record). legal x && all_legal (records bs (i - 1))) (sym e)
 
 pub last_decides : (bs : List ℕ) (n i : ℕ) → i < n → NoneLater bs n (i + 1) (record_at bs i).key → find (held (records bs n)) (record_at bs i).key ≡ own (record_at bs i)
 last_decides bs zero i l h = absurd (omega arith)

@@ -13,7 +13,7 @@ use Rattle.codec.proofs.Digits.{length_trailer, trailer_read_back}
 use Rattle.log_theory.specs.Tape.{Tape, tape, record_at, records, is_put, held, pairs_of, legal, all_legal, slots, greatest_cap, allowed, Standing}
 use Rattle.log_theory.specs.Image.{image_length, trailer_of, closed_bytes, trailer_at, image_tape, is_image, opened_cap, fresh_answer, image_answer}
 use Rattle.log_theory.specs.Laws.{LegalImage, OpensAnywhere}
-use Rattle.log_theory.proofs.Slots.{records-same, records-fit}
+use Rattle.log_theory.proofs.Slots.{records_same, records_fit}
 use Rattle.log_theory.proofs.Calls.{slots_end, cap_most, cap_below}
 
 ok_err : {f : StoreFault} → ◌≡◌ {A = Result (Unit {0}) StoreFault} (Ok tt) (Err f) → ⊥
@@ -76,7 +76,7 @@ image_stands bs n b h =
     let p = passed bs n h in
     let l = p.within in
     subst (Standing (image_tape bs n)) (sym (cond-true (is_image bs n) (trailer_at bs n).cap 0 h))
-    (record { limits = p.limits; in_slots = omega arith; lawful = p.lawful; room = p.room; words_fit = records-fit bs (slots n) b })
+    (record { limits = p.limits; in_slots = omega arith; lawful = p.lawful; room = p.room; words_fit = records_fit bs (slots n) b })
 
 pub image_falls : (bs : List ℕ) (n : ℕ) → is_image bs n ≡ false → Standing (image_tape bs n) (opened_cap bs n) → ⊥
 image_falls bs n e s = false≢true (sym (ap (allowed (length bs)) (cond-false (is_image bs n) (trailer_at bs n).cap 0 e)) ∙ s.limits)
@@ -177,8 +177,8 @@ module _ (t : Tape) (c : ℕ) (s : Standing t c) (small : 32 * t.used < 2 ^ 64) 
       let tr : trailer_at ds n ≡ trailer_of t.used c =
       ap trailer_decoded (ap (λ o. take 16 (drop o ds)) back ∙ trailer_same ds cs (32 * t.used) e ∙ closed_trailer) ∙ trailer_read_back (trailer_of t.used c) trailer_fits in
       let rs : records ds (slots n) ≡ records t.bytes t.used =
-      ap (records ds) used ∙ records-same ds cs n t.used e (omega arith)
-      ∙ records-same cs t.bytes (32 * t.used) t.used (take_over t.bytes (32 * t.used) _ (32 * t.used) (let f = fit t c s in omega arith) (omega arith)) (omega arith) in
+      ap (records ds) used ∙ records_same ds cs n t.used e (omega arith)
+      ∙ records_same cs t.bytes (32 * t.used) t.used (take_over t.bytes (32 * t.used) _ (32 * t.used) (let f = fit t c s in omega arith) (omega arith)) (omega arith) in
       let lc = closed_length in
       let f = fit t c s in
       let cap : (trailer_at ds n).cap ≡ c = ap (λ (z : Trailer). z.cap) tr in

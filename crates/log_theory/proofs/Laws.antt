@@ -1,7 +1,7 @@
 -- The laws of logs, put together.
 use Rattle.log_theory.specs.Laws.{Deciding, Compacting, Behind, Imaging}
 use Rattle.log_theory.proofs.Holds.{last_decides, unwritten_absent}
-use Rattle.log_theory.proofs.Packs.{stays_put, stays_last, last_put_stays, records-packed, pairs_compacted, used_compacted}
+use Rattle.log_theory.proofs.Packs.{stays_put, stays_last, last_put_stays, records_packed, pairs_compacted, used_compacted}
 use Rattle.log_theory.proofs.Calls.{slot_is_free, put_behind, remove_behind}
 use Rattle.log_theory.proofs.Images.{accepted_is_legal, legal_is_accepted, opens_again}
 
@@ -14,7 +14,7 @@ compacting =
       stays_put = stays_put;
       stays_last = stays_last;
       last_put_stays = last_put_stays;
-      in_order = λ t h. records-packed t.bytes t.used t.used h;
+      in_order = λ t h. records_packed t.bytes t.used t.used h;
       pairs_stay = pairs_compacted;
       one_record_each = used_compacted;
       slot_is_free = slot_is_free;

@@ -12,7 +12,7 @@ use Rattle.codec.proofs.Overs.{length_over, over_over}
 use Rattle.log_theory.specs.Tape.{Tape, slot_bytes, record_at, records, is_put, value_of, own, held, pairs_of}
 use Rattle.log_theory.specs.Moves.{recurs, superseded, stays, packed, stay_count, stayers, superseded_count, compacted}
 use Rattle.log_theory.specs.Laws.{NoneLater}
-use Rattle.log_theory.proofs.Slots.{records-front, slot_behind, slot_in, length_slot}
+use Rattle.log_theory.proofs.Slots.{records_front, slot_behind, slot_in, length_slot}
 use Rattle.log_theory.proofs.Holds.{held_ascends, find_held}
 
 -- one slot more looked at: t, whether it is a put; e, whether it has the key; x, whether its own
@@ -109,10 +109,10 @@ packs_more bs n m h =
     let c = stay_count_most bs n m in
     over_over bs 0 (packed bs n m) (slot_bytes bs m) (32 * stay_count bs n m) (omega arith) (omega arith)
 
-pub records-packed : (bs : List ℕ) (n m : ℕ) → 32 * m ≤ length bs → records (over bs 0 (packed bs n m)) (stay_count bs n m) ≡ stayers bs n m
-records-packed bs n zero h = refl
-records-packed bs n (suc m) h =
-    let ih = records-packed bs n m (omega arith) in
+pub records_packed : (bs : List ℕ) (n m : ℕ) → 32 * m ≤ length bs → records (over bs 0 (packed bs n m)) (stay_count bs n m) ≡ stayers bs n m
+records_packed bs n zero h = refl
+records_packed bs n (suc m) h =
+    let ih = records_packed bs n m (omega arith) in
     let w = stay_count bs n m in
     let c = stay_count_most bs n m in
     let s = length_slot bs m (omega arith) in
@@ -123,7 +123,7 @@ records-packed bs n (suc m) h =
     let step : records (over cur (32 * w) (slot_bytes bs m)) (w + 1) ≡ record_at bs m ∷ stayers bs n m =
     ap (records (over cur (32 * w) (slot_bytes bs m))) (add-one w)
     ∙ ap (λ z. decoded z ∷ records (over cur (32 * w) (slot_bytes bs m)) w) (slot_in cur w (slot_bytes bs m) (omega arith) s)
-    ∙ ap (λ z. record_at bs m ∷ z) (records-front cur (32 * w) (slot_bytes bs m) w (omega arith) (omega arith) ∙ ih) in
+    ∙ ap (λ z. record_at bs m ∷ z) (records_front cur (32 * w) (slot_bytes bs m) w (omega arith) (omega arith) ∙ ih) in
     ap (λ z. records (over bs 0 z) (stay_count bs n (suc m))) (cond-true (stays bs n m) (packed bs n m ++ slot_bytes bs m) (packed bs n m) e)
     ∙ ap (records (over bs 0 (packed bs n m ++ slot_bytes bs m))) (cond-true (stays bs n m) (w + 1) w e)
     ∙ ap (λ z. records z (w + 1)) (sym (packs_more bs n m (omega arith)))
@@ -136,7 +136,7 @@ records-packed bs n (suc m) h =
 
 -- compaction changes no pair, and leaves as many records as pairs
 pub pairs_compacted : (t : Tape) → 32 * t.used ≤ length t.bytes → pairs_of (compacted t) ≡ pairs_of t
-pairs_compacted t h = ap held (records-packed t.bytes t.used t.used h) ∙ held_stayers t.bytes t.used
+pairs_compacted t h = ap held (records_packed t.bytes t.used t.used h) ∙ held_stayers t.bytes t.used
 
 pub used_compacted : (t : Tape) → (compacted t).used ≡ length (pairs_of t)
 used_compacted t = sym (length_stayers t.bytes t.used t.used (omega arith)) ∙ ap length (held_stayers t.bytes t.used)

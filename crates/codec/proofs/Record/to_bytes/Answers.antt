@@ -1,7 +1,7 @@
 use Rattle.std.proofs.Common.{◌≡◌, ap, ◌∙◌, rules}
 use Rattle.codec.specs.Words.{le, over}
 use Rattle.codec.specs.Records.{encoded, decoded, FitsRecord}
-use Rattle.codec.proofs.Digits.{record-read-back}
+use Rattle.codec.proofs.Digits.{record_read_back}
 use Rattle.codec.proofs.Record.to_bytes.Goals as goal
 
 pub returns : goal.returns
@@ -11,4 +11,4 @@ returns c =
     let e : c.set-word-4.new.bytes ≡ encoded c.args.self =
     c.set-word-4.ensures ∙ ap (λ z. over z 24 (le c.args.self.kind)) (c.set-word-3.ensures
     ∙ ap (λ z. over z 16 (le c.args.self.b)) (c.set-word-2.ensures ∙ ap (λ z. over z 8 (le c.args.self.a)) c.set-word.ensures)) in
-    record { bytes-are-encoded = e; reads_back = ap decoded e ∙ record-read-back c.args.self fits }
+    record { bytes-are-encoded = e; reads_back = ap decoded e ∙ record_read_back c.args.self fits }
