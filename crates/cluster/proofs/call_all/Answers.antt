@@ -40,14 +40,14 @@ loop-asked-preserved g c =
     let t : Turn p l₀ cs l (a ∷ left) (vec_items c.loop-asked.answers) =
     subst (λ (x : List Call). Turn p l₀ cs l x (vec_items c.loop-asked.answers)) here c.loop-asked.invariant.2 in (
       c.call-next.ensures.stands,
-      c.call-next.ensures.placement-kept ∙ same,
-      turn_more p l₀ cs l l' a left (vec_items c.loop-asked.answers) (vec_items c.push-reserved.new.self) c.call-next.result.1
+      c.call-next.ensures.placement_kept ∙ same,
+      turn_more p l₀ cs l l' a left (vec_items c.loop-asked.answers) (vec_items c.push_reserved.new.self) c.call-next.result.1
           (c.call-next.ensures.replies.answers ∙ ap (λ x. (lent.call (g.P.Placement.rule x) l a).answer) same)
           (c.call-next.ensures.replies.leaves ∙ ap (λ x. (lent.call (g.P.Placement.rule x) l a).after) same)
-          c.push-reserved.ensures.items t,
-      c.push-reserved.ensures.len ∙ ap (λ (n : ℕ). n + 1) c.loop-asked.invariant.3,
-      subst (λ (n : ℕ). length cs ≤ n) (sym c.push-reserved.ensures.capacity) c.loop-asked.invariant.4,
-      c.call-next.ensures.beyond-untouched ∙ c.loop-asked.invariant.5,
+          c.push_reserved.ensures.items t,
+      c.push_reserved.ensures.len ∙ ap (λ (n : ℕ). n + 1) c.loop-asked.invariant.3,
+      subst (λ (n : ℕ). length cs ≤ n) (sym c.push_reserved.ensures.capacity) c.loop-asked.invariant.4,
+      c.call-next.ensures.beyond_untouched ∙ c.loop-asked.invariant.5,
     )
 
 pub returns : goal.returns
@@ -59,8 +59,8 @@ returns g c =
     let e : drop c.loop-asked.asked-index cs ≡ [] = drop_all c.loop-asked.asked-index cs c.loop-asked-test.false in
     record {
       stands = c.loop-asked.invariant.0;
-      answers-all = turn_answers p l₀ cs l (drop c.loop-asked.asked-index cs) (vec_items c.loop-asked.answers) e c.loop-asked.invariant.2;
+      answers_all = turn_answers p l₀ cs l (drop c.loop-asked.asked-index cs) (vec_items c.loop-asked.answers) e c.loop-asked.invariant.2;
       leaves = turn_after p l₀ cs l (drop c.loop-asked.asked-index cs) (vec_items c.loop-asked.answers) e c.loop-asked.invariant.2;
-      placement-kept = c.loop-asked.invariant.1;
-      beyond-untouched = c.loop-asked.invariant.5;
+      placement_kept = c.loop-asked.invariant.1;
+      beyond_untouched = c.loop-asked.invariant.5;
     }

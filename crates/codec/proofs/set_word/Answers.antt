@@ -6,5 +6,5 @@ use Rattle.codec.proofs.set_word.Goals as goal
 pub returns : goal.returns
 unfolding le
 returns c =
-    put_mid_over c.args.at (c.args.at + 8 - c.args.at) c.args.bytes.now c.copy-from-slice.new.self (le c.args.x)
-    (c.copy-from-slice.ensures.after ∙ c.to-le-bytes.ensures) (omega arith)
+    put_mid_over c.args.at (c.args.at + 8 - c.args.at) c.args.bytes.now c.copy_from_slice.new.self (le c.args.x)
+    (c.copy_from_slice.ensures.after ∙ c.to_le_bytes.ensures) (omega arith)

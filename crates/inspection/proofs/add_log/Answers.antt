@@ -13,6 +13,6 @@ returns c =
     let t = tape c.args.log.now.bytes.now c.args.log.now.used in
     let out = string_bytes c.args.out.now in
     joined out _ _ _ (cap_line c.args.log.now.cap) (pair_lines (pairs_of t)) (superseded_line (superseded_count t.bytes t.used t.used))
-    (c.in-ok-writeln.ensures.bytes ∙ ap (λ k. out ++ cap_line k) c.cap-cap.ensures)
-    c.in-ok-add-pairs.ensures
-    (c.in-ok-writeln-2.ensures.bytes ∙ ap (λ k. string_bytes c.add-pairs.new.out ++ superseded_line k) c.superseded-superseded.ensures)
+    (c.in_ok-writeln.ensures.bytes ∙ ap (λ k. out ++ cap_line k) c.cap-cap.ensures)
+    c.in_ok-add_pairs.ensures
+    (c.in_ok-writeln-2.ensures.bytes ∙ ap (λ k. string_bytes c.add_pairs.new.out ++ superseded_line k) c.superseded-superseded.ensures)

@@ -3,23 +3,23 @@ use Rattle.log_theory.proofs.Counts.{live_most, loop_new, loop_same, loop_gone, 
 use Rattle.log.proofs.count_live.Goals as goal
 use Rattle.log.proofs.count_live.Goals.{then-rec-eq-PUT+then-not-was, then-rec-eq-PUT+else-not-was, else-rec-eq-PUT+then-was, else-rec-eq-PUT+else-was}
 
-pub overflow-add-n : goal.overflow-add-n
-overflow-add-n c =
+pub overflow_add-n : goal.overflow_add-n
+overflow_add-n c =
     let l = live_most c.args.bytes.now c.loop-i.i in
     let m : c.loop-i.n ≤ c.loop-i.i = omega arith in
     search rules
 
-pub overflow-sub-n : goal.overflow-sub-n
-overflow-sub-n c =
-    let g = loop_gone c.args.bytes.now c.loop-i.i c.read-rec.result c.read-rec.ensures c.look-up.result c.look-up.ensures c.is-some-was.result c.is-some-was.ensures c.if-rec-eq-PUT.false c.if-was.true in
+pub overflow_sub-n : goal.overflow_sub-n
+overflow_sub-n c =
+    let g = loop_gone c.args.bytes.now c.loop-i.i c.read-rec.result c.read-rec.ensures c.look_up.result c.look_up.ensures c.is_some-was.result c.is_some-was.ensures c.if-rec-eq-PUT.false c.if-was.true in
     omega arith
 
 pub loop-i-preserved : goal.loop-i-preserved
 loop-i-preserved c =
-    let new = loop_new c.args.bytes.now c.loop-i.i c.read-rec.result c.read-rec.ensures c.look-up.result c.look-up.ensures c.is-some-was.result c.is-some-was.ensures in
-    let same = loop_same c.args.bytes.now c.loop-i.i c.read-rec.result c.read-rec.ensures c.look-up.result c.look-up.ensures c.is-some-was.result c.is-some-was.ensures in
-    let gone = loop_gone c.args.bytes.now c.loop-i.i c.read-rec.result c.read-rec.ensures c.look-up.result c.look-up.ensures c.is-some-was.result c.is-some-was.ensures in
-    let none = loop_none c.args.bytes.now c.loop-i.i c.read-rec.result c.read-rec.ensures c.look-up.result c.look-up.ensures c.is-some-was.result c.is-some-was.ensures in
+    let new = loop_new c.args.bytes.now c.loop-i.i c.read-rec.result c.read-rec.ensures c.look_up.result c.look_up.ensures c.is_some-was.result c.is_some-was.ensures in
+    let same = loop_same c.args.bytes.now c.loop-i.i c.read-rec.result c.read-rec.ensures c.look_up.result c.look_up.ensures c.is_some-was.result c.is_some-was.ensures in
+    let gone = loop_gone c.args.bytes.now c.loop-i.i c.read-rec.result c.read-rec.ensures c.look_up.result c.look_up.ensures c.is_some-was.result c.is_some-was.ensures in
+    let none = loop_none c.args.bytes.now c.loop-i.i c.read-rec.result c.read-rec.ensures c.look_up.result c.look_up.ensures c.is_some-was.result c.is_some-was.ensures in
     elim c.if-rec-eq-PUT.branch [
       | then-rec-eq-PUT+then-not-was w ↦ w.n-is ∙ ap (λ z. z + 1) c.loop-i.invariant ∙ new w.if-rec-eq-PUT.true w.if-not-was.true
       | then-rec-eq-PUT+else-not-was w ↦ w.n-is ∙ c.loop-i.invariant ∙ same w.if-rec-eq-PUT.true w.if-not-was.false

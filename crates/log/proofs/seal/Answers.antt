@@ -11,6 +11,6 @@ returns c =
     let t = trailer_of c.args.used c.args.cap in
     let l = length_trailer t in
     record {
-      trailer-is-written = put_mid_over o (o + 16 - o) c.args.bytes.now c.copy-from-slice.new.self (trailer_encoded t) (c.copy-from-slice.ensures.after ∙ c.to-bytes.ensures.bytes-are-encoded) (omega arith);
-      answers-length = refl;
+      trailer_is_written = put_mid_over o (o + 16 - o) c.args.bytes.now c.copy_from_slice.new.self (trailer_encoded t) (c.copy_from_slice.ensures.after ∙ c.to_bytes.ensures.bytes_are_encoded) (omega arith);
+      answers_length = refl;
     }

@@ -9,8 +9,8 @@ made : (w i : ℕ) → i < 16 → w < 2 ^ 64 →
 made w i h f =
     ap (λ (x : ℕ). x + (w / 2 ^ (4 * i) / 16 * 2 ^ (4 * i)) % 2 ^ 64) (low_fits w i h) ∙ ap (λ (x : ℕ). w % 2 ^ (4 * i) + x) (cut_high w i f)
 
-pub overflow-add-result : goal.overflow-add-result
-overflow-add-result c = record { fits = subst (λ (x : ℕ). x < 2 ^ 64) (sym (made c.args.word c.args.place c.requires c.ranges.word.fits)) (cut_fits c.args.word c.args.place c.ranges.word.fits) }
+pub overflow_add-result : goal.overflow_add-result
+overflow_add-result c = record { fits = subst (λ (x : ℕ). x < 2 ^ 64) (sym (made c.args.word c.args.place c.requires c.ranges.word.fits)) (cut_fits c.args.word c.args.place c.ranges.word.fits) }
 
 pub returns : goal.returns
 returns c n h =

@@ -7,8 +7,8 @@ use Rattle.placement.proofs.number_pushed.Goals as goal
 made : (w n s : ℕ) → n < 16 → s < 16 → w % ((1 * 2 ^ (4 * n)) % 2 ^ 64) + (s * 2 ^ (4 * n)) % 2 ^ 64 ≡ w % 2 ^ (4 * n) + s * 2 ^ (4 * n)
 made w n s h l = ap (λ (x : ℕ). x + (s * 2 ^ (4 * n)) % 2 ^ 64) (low_fits w n h) ∙ ap (λ (x : ℕ). w % 2 ^ (4 * n) + x) (shifted s n l h)
 
-pub overflow-add-result : goal.overflow-add-result
-overflow-add-result c = record { fits = subst (λ (x : ℕ). x < 2 ^ 64) (sym (made c.args.word c.args.len c.args.number c.requires.0 c.requires.1)) (pushed_fits c.args.word c.args.len c.args.number c.requires.0 c.requires.1) }
+pub overflow_add-result : goal.overflow_add-result
+overflow_add-result c = record { fits = subst (λ (x : ℕ). x < 2 ^ 64) (sym (made c.args.word c.args.len c.args.number c.requires.0 c.requires.1)) (pushed_fits c.args.word c.args.len c.args.number c.requires.0 c.requires.1) }
 
 pub returns : goal.returns
 returns c =

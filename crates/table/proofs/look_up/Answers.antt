@@ -5,30 +5,30 @@ use Rattle.table.proofs.Walks.{met}
 use Rattle.table.proofs.look_up.Goals as goal
 
 found : (c : goal.In-Some) → Some c.in-Some.p ≡ sought c.args.cells.now c.args.key
-found c = met c.args.cells.now c.args.key c.walk-for.result (Some c.in-Some.p) c.walk-for.ensures c.in-Some.is
+found c = met c.args.cells.now c.args.key c.walk_for.result (Some c.in-Some.p) c.walk_for.ensures c.in-Some.is
 
 within : (c : goal.In-Some) → c.in-Some.p < length c.args.cells.now
 within c = sought_lt c.args.cells.now c.args.key c.in-Some.p (found c)
 
-pub offset-bounds-cells-p : goal.offset-bounds-cells-p
-offset-bounds-cells-p c = let l = within c in search rules
+pub offset_bounds-cells-p : goal.offset_bounds-cells-p
+offset_bounds-cells-p c = let l = within c in search rules
 
 pub bounds : goal.bounds
 bounds c = within c
 
 pub bounds-cells-p : goal.bounds-cells-p
 bounds-cells-p c = sought_lt c.args.cells.now c.args.key c.in-Some.p
-    (met c.args.cells.now c.args.key c.walk-for.result (Some c.in-Some.p) c.walk-for.ensures c.in-Some.is)
+    (met c.args.cells.now c.args.key c.walk_for.result (Some c.in-Some.p) c.walk_for.ensures c.in-Some.is)
 
 pub returns-in-Live : goal.returns-in-Live
 returns-in-Live c =
     look_live c.args.cells.now c.args.key c.in-Some.p c.in-Live.key c.in-Live.value
-    (stand_in c.args.cells.now c.args.cap c.requires).found (met c.args.cells.now c.args.key c.walk-for.result (Some c.in-Some.p) c.walk-for.ensures c.in-Some.is) c.in-Live.is
+    (stand_in c.args.cells.now c.args.cap c.requires).found (met c.args.cells.now c.args.key c.walk_for.result (Some c.in-Some.p) c.walk_for.ensures c.in-Some.is) c.in-Live.is
 
 pub returns-in-Empty : goal.returns-in-Empty
-returns-in-Empty c = absurd (sought_not_empty c.args.cells.now c.args.key c.in-Some.p (met c.args.cells.now c.args.key c.walk-for.result (Some c.in-Some.p) c.walk-for.ensures c.in-Some.is) c.in-Empty.is)
+returns-in-Empty c = absurd (sought_not_empty c.args.cells.now c.args.key c.in-Some.p (met c.args.cells.now c.args.key c.walk_for.result (Some c.in-Some.p) c.walk_for.ensures c.in-Some.is) c.in-Empty.is)
 
 pub returns-in-None : goal.returns-in-None
 returns-in-None c =
     look_none c.args.cells.now c.args.key (stand_in c.args.cells.now c.args.cap c.requires).found
-    (met c.args.cells.now c.args.key c.walk-for.result None c.walk-for.ensures c.in-None.is)
+    (met c.args.cells.now c.args.key c.walk_for.result None c.walk_for.ensures c.in-None.is)

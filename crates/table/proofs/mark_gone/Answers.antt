@@ -7,13 +7,13 @@ use Rattle.table.proofs.Walks.{met}
 use Rattle.table.proofs.mark_gone.Goals as goal
 
 found : (c : goal.In-Some) → Some c.in-Some.p ≡ sought c.args.cells.now c.args.key
-found c = met c.args.cells.now c.args.key c.walk-for.result (Some c.in-Some.p) c.walk-for.ensures c.in-Some.is
+found c = met c.args.cells.now c.args.key c.walk_for.result (Some c.in-Some.p) c.walk_for.ensures c.in-Some.is
 
 within : (c : goal.In-Some) → c.in-Some.p < length c.args.cells.now
 within c = sought_lt c.args.cells.now c.args.key c.in-Some.p (found c)
 
-pub offset-bounds-cells-p : goal.offset-bounds-cells-p
-offset-bounds-cells-p c = let l = within c in search rules
+pub offset_bounds-cells-p : goal.offset_bounds-cells-p
+offset_bounds-cells-p c = let l = within c in search rules
 
 pub bounds-cells-p : goal.bounds-cells-p
 bounds-cells-p c = within c
@@ -21,14 +21,14 @@ bounds-cells-p c = within c
 pub returns-in-Some : goal.returns-in-Some
 returns-in-Some c =
     record {
-      answers-remove = sym (has_seen c.args.cells.now (stand_in c.args.cells.now c.args.cap c.requires).found c.args.key c.in-Some.p (sym (found c)));
-      cells-follow-remove = ap (λ o. write_at o c.args.cells.now Gone) (found c);
+      answers_remove = sym (has_seen c.args.cells.now (stand_in c.args.cells.now c.args.cap c.requires).found c.args.key c.in-Some.p (sym (found c)));
+      cells_follow_remove = ap (λ o. write_at o c.args.cells.now Gone) (found c);
     }
 
 pub returns-in-None : goal.returns-in-None
 returns-in-None c =
-    let e = met c.args.cells.now c.args.key c.walk-for.result None c.walk-for.ensures c.in-None.is in
+    let e = met c.args.cells.now c.args.key c.walk_for.result None c.walk_for.ensures c.in-None.is in
     record {
-      answers-remove = sym (has_unseen c.args.cells.now (stand_in c.args.cells.now c.args.cap c.requires).found c.args.key (sym e));
-      cells-follow-remove = ap (λ o. write_at o c.args.cells.now Gone) e;
+      answers_remove = sym (has_unseen c.args.cells.now (stand_in c.args.cells.now c.args.cap c.requires).found c.args.key (sym e));
+      cells_follow_remove = ap (λ o. write_at o c.args.cells.now Gone) e;
     }

@@ -14,15 +14,15 @@ few : (r : Roster) → length (members r) ≤ 16
 few r = let a = length_members r in let b : r.len ≤ 16 = r.fits in omega arith
 
 pub gather-some-requires : goal.gather-some-requires
-gather-some-requires g c = record { standing = c.requires; room-enough = let a = few c.args.roster.now in omega arith }
+gather-some-requires g c = record { standing = c.requires; room_enough = let a = few c.args.roster.now in omega arith }
 
 pub gather-all-requires : goal.gather-all-requires
 gather-all-requires g c =
     let a = few c.args.roster.now in let b = few c.args.target.now in
-    record { standing = c.requires; room-enough = omega arith }
+    record { standing = c.requires; room_enough = omega arith }
 
-pub slice-bounds-room-end : goal.slice-bounds-room-end
-slice-bounds-room-end g c =
+pub slice_bounds-room-end : goal.slice_bounds-room-end
+slice_bounds-room-end g c =
     let a = few c.args.roster.now in let b = few c.args.target.now in
     omega arith
 

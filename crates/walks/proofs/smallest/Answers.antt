@@ -8,5 +8,5 @@ returns-then-keys-eq0 c = none_smallest c.args.keys.now c.if-keys-eq0.true
 
 pub returns : goal.returns
 returns c =
-    let h : 0 < length c.select-first.new.items = omega arith in
-    front_is_smallest c.args.keys.now c.select-first.new.items h c.select-first.ensures.front-sorted
+    let h : 0 < length c.select_first.new.items = omega arith in
+    front_is_smallest c.args.keys.now c.select_first.new.items h c.select_first.ensures.front_sorted

@@ -13,9 +13,9 @@ loop-i-preserved g c =
     let v = c.args.value in
     let h : c.loop-i.i < length L = omega arith in (
       c.put.ensures.stands,
-      ap (λ (x : List Meaning). put_all (drop (c.loop-i.i + 1) L) x k v) c.put.ensures.stores-follow-put
+      ap (λ (x : List Meaning). put_all (drop (c.loop-i.i + 1) L) x k v) c.put.ensures.stores_follow_put
           ∙ onward (λ (x : List ℕ). put_all x st k v) L c.loop-i.i c.at.result (put_all L (g.B.Bank.stores c.args.bank.now) k v) h c.at.ensures c.loop-i.invariant.1,
-      c.put.ensures.beyond-untouched ∙ c.loop-i.invariant.2,
+      c.put.ensures.beyond_untouched ∙ c.loop-i.invariant.2,
     )
 
 pub returns : goal.returns
@@ -27,6 +27,6 @@ returns g c =
     let h : length L ≤ c.loop-i.i = omega arith in
     record {
       stands = c.loop-i.invariant.0;
-      writes-all = ended (λ (x : List ℕ). put_all x st k v) L c.loop-i.i (put_all L (g.B.Bank.stores c.args.bank.now) k v) h c.loop-i.invariant.1;
-      beyond-untouched = c.loop-i.invariant.2;
+      writes_all = ended (λ (x : List ℕ). put_all x st k v) L c.loop-i.i (put_all L (g.B.Bank.stores c.args.bank.now) k v) h c.loop-i.invariant.1;
+      beyond_untouched = c.loop-i.invariant.2;
     }

@@ -10,4 +10,4 @@ returns c =
     let f : Bytes c.args.bytes = search rules in
     let r : Record = record { key = c.word.result; a = c.word-2.result; b = c.word-3.result; kind = c.word-4.result } in
     let e : r ≡ decoded c.args.bytes = same_record r (decoded c.args.bytes) c.word.ensures c.word-2.ensures c.word-3.ensures c.word-4.ensures in
-    record { record-is-decoded = e; writes-back = ap encoded e ∙ record_written_back c.args.bytes f (omega arith) }
+    record { record_is_decoded = e; writes_back = ap encoded e ∙ record_written_back c.args.bytes f (omega arith) }

@@ -10,4 +10,4 @@ returns c =
     let f : Bytes c.args.bytes = search rules in
     let t : Trailer = record { distance = c.word.result; cap = c.word-2.result } in
     let e : t ≡ trailer_decoded c.args.bytes = same_trailer t (trailer_decoded c.args.bytes) c.word.ensures c.word-2.ensures in
-    record { trailer-is-decoded = e; writes-back = ap trailer_encoded e ∙ trailer_written_back c.args.bytes f (omega arith) }
+    record { trailer_is_decoded = e; writes_back = ap trailer_encoded e ∙ trailer_written_back c.args.bytes f (omega arith) }

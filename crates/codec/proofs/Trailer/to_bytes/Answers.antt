@@ -8,6 +8,6 @@ pub returns : goal.returns
 unfolding le over
 returns c =
     let fits : FitsTrailer c.args.self = search rules in
-    let e : c.set-word-2.new.bytes ≡ trailer_encoded c.args.self =
-    c.set-word-2.ensures ∙ ap (λ z. over z 8 (le c.args.self.cap)) c.set-word.ensures in
-    record { bytes-are-encoded = e; reads_back = ap trailer_decoded e ∙ trailer_read_back c.args.self fits }
+    let e : c.set_word-2.new.bytes ≡ trailer_encoded c.args.self =
+    c.set_word-2.ensures ∙ ap (λ z. over z 8 (le c.args.self.cap)) c.set_word.ensures in
+    record { bytes_are_encoded = e; reads_back = ap trailer_decoded e ∙ trailer_read_back c.args.self fits }

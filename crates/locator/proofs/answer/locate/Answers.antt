@@ -7,16 +7,16 @@ use Rattle.locator.proofs.answer.locate.Goals as goal
 
 pub returns : goal.returns
 returns c =
-    let q = c.in-ok-question.question in
+    let q = c.in_ok-question.question in
     let p = rule_of q.policy in
     let R = members_of c.whole-roster.result in
     let S = members_of c.remaining-rest.result in
     let ks = vec_items q.keys in (
       q,
-      c.in-ok-question.ensures,
-      c.in-ok-write-lines.ensures
-          ∙ ap (λ (u : Text). u ++ lines p q.copies R S c.as-slice.result.now) c.new-text.ensures.bytes
-          ∙ ap (λ (l : List ℕ). lines p q.copies R S l) c.as-slice.ensures.value
+      c.in_ok-question.ensures,
+      c.in_ok-write_lines.ensures
+          ∙ ap (λ (u : Text). u ++ lines p q.copies R S c.as_slice.result.now) c.new-text.ensures.bytes
+          ∙ ap (λ (l : List ℕ). lines p q.copies R S l) c.as_slice.ensures.value
           ∙ ap (λ (l : List ℕ). lines p q.copies l S ks) c.whole-roster.ensures
           ∙ ap (λ (l : List ℕ). lines p q.copies (count_up 0 q.members) l ks) c.remaining-rest.ensures,
     )

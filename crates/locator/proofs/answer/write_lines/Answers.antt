@@ -14,7 +14,7 @@ loop-key-preserved c =
     let ks = c.args.keys.now in
     let i = c.loop-key.key-index in
     let old = string_bytes c.loop-key.out in
-    one_more old (string_bytes c.write-line.new.out) (line p c.args.copies R S (get_or ks i 0)) (lines p c.args.copies R S (drop (i + 1) ks)) _ c.in-ok-write-line.ensures
+    one_more old (string_bytes c.write_line.new.out) (line p c.args.copies R S (get_or ks i 0)) (lines p c.args.copies R S (drop (i + 1) ks)) _ c.in_ok-write_line.ensures
     (ap (λ (l : List ℕ). old ++ lines p c.args.copies R S l) (sym (drop_more ks i 0 c.loop-key-test.true)) ∙ c.loop-key.invariant)
 
 pub returns : goal.returns

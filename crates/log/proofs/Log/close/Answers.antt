@@ -14,10 +14,10 @@ returns c =
     let t = tape c.args.self.bytes.now c.args.self.used in
     let m = c.args.self.cap in
     let small : 32 * t.used < 2 ^ 64 = let l = slots_within (length t.bytes) t.used c.requires.standing.in_slots in search rules in
-    let e = c.seal.ensures.trailer-is-written in
-    let f = c.seal.ensures.answers-length in
+    let e = c.seal.ensures.trailer_is_written in
+    let f = c.seal.ensures.answers_length in
     record {
-      answers-length = f;
-      trailer-is-written = e;
+      answers_length = f;
+      trailer_is_written = e;
       opens_again = subst (λ (z : List ℕ). OpensAnywhere z c.seal.result (pairs_of t) m) (sym e) (subst (λ (n : ℕ). OpensAnywhere (closed_bytes t m) n (pairs_of t) m) (sym f) (opens_again t m c.requires.standing small));
     }

@@ -6,11 +6,11 @@ use Rattle.log.proofs.Log.make.Goals as goal
 pub returns : goal.returns
 returns c =
     record {
-      bytes-stay = refl;
-      no-record-in-use = refl;
-      cap-is-chosen = refl;
-      holds-nothing = refl;
-      stands-where-allowed = fresh_stands c.args.bytes.now c.args.cap;
-      falls-where-refused = λ e s. false≢true (sym e ∙ s.limits);
+      bytes_stay = refl;
+      no_record_in_use = refl;
+      cap_is_chosen = refl;
+      holds_nothing = refl;
+      stands_where_allowed = fresh_stands c.args.bytes.now c.args.cap;
+      falls_where_refused = λ e s. false≢true (sym e ∙ s.limits);
       same_bytes = refl;
     }

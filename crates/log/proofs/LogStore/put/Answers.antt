@@ -10,11 +10,11 @@ returns c =
     let t = tape s.bytes.now s.used in
     let fits : FitsWords c.args.key c.args.value = record { key_fits = omega arith; a_fits = search rules; b_fits = search rules } in
     let p = put_stands t s.cap c.args.key c.args.value c.requires fits in
-    let e = c.write-put-answer.ensures.tape-follows-put in
+    let e = c.write_put-answer.ensures.tape_follows_put in
     record {
       stands = subst (λ (u : Tape). Standing u s.cap) (sym e) p.0;
-      answers-put = c.write-put-answer.ensures.answers-put;
-      pairs-follow-put = ap pairs_of e ∙ p.1;
-      cap-stays = refl;
+      answers_put = c.write_put-answer.ensures.answers_put;
+      pairs_follow_put = ap pairs_of e ∙ p.1;
+      cap_stays = refl;
       placed = (e, refl);
     }

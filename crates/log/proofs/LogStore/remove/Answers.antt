@@ -8,11 +8,11 @@ returns c =
     let s = c.args.self.now in
     let t = tape s.bytes.now s.used in
     let p = remove_stands t s.cap c.args.key c.requires (omega arith) in
-    let e = c.write-removal-answer.ensures.tape-follows-remove in
+    let e = c.write_removal-answer.ensures.tape_follows_remove in
     record {
       stands = subst (λ (u : Tape). Standing u s.cap) (sym e) p.0;
-      answers-remove = c.write-removal-answer.ensures.answers-remove;
-      pairs-follow-remove = ap pairs_of e ∙ p.1;
-      cap-stays = refl;
+      answers_remove = c.write_removal-answer.ensures.answers_remove;
+      pairs_follow_remove = ap pairs_of e ∙ p.1;
+      cap_stays = refl;
       struck = (e, refl);
     }

@@ -16,13 +16,13 @@ packed-requires c =
     let R = members r in
     let fits : r.len ≤ 16 = r.fits in
     let n = length_members r in
-    let l = length_permutation c.weigh.new.room c.select-first.new.items c.select-first.ensures.rearranged in
+    let l = length_permutation c.weigh.new.room c.select_first.new.items c.select_first.ensures.rearranged in
     let a : All Numbered c.weigh.new.room =
     subst (λ (u : List Candidate). All Numbered u) (sym c.weigh.ensures) (all_numbered c.args.key R (members_rostered_16 r).below) in
-    (omega arith, (omega arith, all_shuffled Numbered c.weigh.new.room c.select-first.new.items c.select-first.ensures.rearranged a))
+    (omega arith, (omega arith, all_shuffled Numbered c.weigh.new.room c.select_first.new.items c.select_first.ensures.rearranged a))
 
 pub returns : goal.returns
 returns c =
     let R = members c.args.roster.now in
-    c.packed.ensures ∙ ap (map store_of) (c.select-first.ensures.front-sorted ∙ ap (λ (u : List Candidate). take c.args.count (sort heavier u)) c.weigh.ensures)
+    c.packed.ensures ∙ ap (map store_of) (c.select_first.ensures.front_sorted ∙ ap (λ (u : List Candidate). take c.args.count (sort heavier u)) c.weigh.ensures)
     ∙ first_stores c.args.key c.args.count R

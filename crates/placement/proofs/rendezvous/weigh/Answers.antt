@@ -19,8 +19,8 @@ loop-i-preserved c =
     let l = length_members r in
     let i = c.loop-i.i in
     let h : i < r.len = omega arith in
-    weigh_more c.args.key i c.number-at-store.result c.weight.result R c.loop-i.room (omega arith) (omega arith)
-    (c.number-at-store.ensures.1 r.len h) (c.weight.ensures ∙ ap (λ (d : ℕ). weight_at d c.number-at-store.result) c.digest-d.ensures.0) c.loop-i.invariant
+    weigh_more c.args.key i c.number_at-store.result c.weight.result R c.loop-i.room (omega arith) (omega arith)
+    (c.number_at-store.ensures.1 r.len h) (c.weight.ensures ∙ ap (λ (d : ℕ). weight_at d c.number_at-store.result) c.digest-d.ensures.0) c.loop-i.invariant
 
 pub returns : goal.returns
 returns c =

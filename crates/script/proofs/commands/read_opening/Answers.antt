@@ -3,18 +3,18 @@ use Rattle.std.proofs.lemmas.Result.{MatchResult-weaker}
 use Rattle.grammar.proofs.Going.{refuses_opening_first, refuses_opening_rest, gives_opening}
 use Rattle.script.proofs.commands.read_opening.Goals as goal
 
-pub returns-in-err--keyword : goal.returns-in-err--keyword
-returns-in-err--keyword c =
+pub returns-in_err--keyword : goal.returns-in_err--keyword
+returns-in_err--keyword c =
     let new = c.new-r.ensures in
-    let told = c.in-err--keyword.ensures in
-    refuses_opening_first _ _ _ _ _ c.from-residual.ensures.1
-    (rw (← new.line-is-given, ← new.number-is-given) told.reads_first)
+    let told = c.in_err--keyword.ensures in
+    refuses_opening_first _ _ _ _ _ c.from_residual.ensures.1
+    (rw (← new.line_is_given, ← new.number_is_given) told.reads_first)
 
 pub returns : goal.returns
 returns c =
     let new = c.new-r.ensures in
-    let told = c.in-ok--keyword.ensures in
-    let first = rw new.line-is-given at told.reads_first in
+    let told = c.in_ok--keyword.ensures in
+    let first = rw new.line_is_given at told.reads_first in
     MatchResult-weaker c.cluster.result c.cluster.ensures
-    (λ x h. gives_opening _ _ _ _ x first (told.line_stays ∙ new.line-is-given) h)
-    (λ f h. refuses_opening_rest _ _ _ _ _ _ f first (told.line_stays ∙ new.line-is-given) (told.number-stays ∙ new.number-is-given) h)
+    (λ x h. gives_opening _ _ _ _ x first (told.line_stays ∙ new.line_is_given) h)
+    (λ f h. refuses_opening_rest _ _ _ _ _ _ f first (told.line_stays ∙ new.line_is_given) (told.number_stays ∙ new.number_is_given) h)

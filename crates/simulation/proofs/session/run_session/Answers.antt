@@ -8,14 +8,14 @@ use Rattle.simulation.proofs.session.run_session.Goals as goal
 pub returns-in-Err : goal.returns-in-Err
 returns-in-Err g c =
     let o = c.args.opening.now in
-    subst (Unopened o) (sym c.fault-of.ensures)
-    (unopened o c.requires.limits _ (ap (take o.stores) c.requires.vacant) _ _ _ c.in-Err.ensures.runs-as-the-machine)
+    subst (Unopened o) (sym c.fault_of.ensures)
+    (unopened o c.requires.limits _ (ap (take o.stores) c.requires.vacant) _ _ _ c.in-Err.ensures.runs_as_the_machine)
 
 pub returns : goal.returns
 returns g c =
     let o = c.args.opening.now in
-    let calls : c.as-slice.result.now ≡ calls_of c.args.rows.now = c.as-slice.ensures.value ∙ c.in-ok-calls.ensures in
-    let ran = rw calls at c.in-Ok.ensures.runs-as-the-machine in
-    MatchResult-weaker c.write-session.result c.write-session.ensures
-    (λ s e. ended_session o c.requires.limits _ (ap (take o.stores) c.requires.vacant) _ c.args.rows.now _ _ _ _ _ ran c.as-slice-in-Ok.ensures.value c.statement-of-statement.ensures e)
+    let calls : c.as_slice.result.now ≡ calls_of c.args.rows.now = c.as_slice.ensures.value ∙ c.in_ok-calls.ensures in
+    let ran = rw calls at c.in-Ok.ensures.runs_as_the_machine in
+    MatchResult-weaker c.write_session.result c.write_session.ensures
+    (λ s e. ended_session o c.requires.limits _ (ap (take o.stores) c.requires.vacant) _ c.args.rows.now _ _ _ _ _ ran c.as_slice-in-Ok.ensures.value c.statement_of-statement.ensures e)
     (no_memory o)

@@ -10,7 +10,7 @@ loop-store-preserved g c =
     let s = c.loop-store.store-counter in
     let here : s < length st = omega arith in
     wrote _ _ _ _ _ _
-    (c.in-ok-writeln.ensures.bytes ∙ ap (λ n. string_bytes c.loop-store.out ++ count_text s n) c.count-count.ensures)
+    (c.in_ok-writeln.ensures.bytes ∙ ap (λ n. string_bytes c.loop-store.out ++ count_text s n) c.count-count.ensures)
     (counts_more st s here) c.loop-store.invariant
 
 pub returns : goal.returns

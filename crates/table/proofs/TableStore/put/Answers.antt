@@ -10,11 +10,11 @@ returns c =
     let m = c.args.self.now.cap in
     let fit : FitsWords c.args.key c.args.value = record { key_fits = omega arith; a_fits = search rules; b_fits = search rules } in
     let s = put_stands cs m c.args.key c.args.value fit (stand_in cs m c.requires) in
-    let e = c.write-pair.ensures.cells-follow-put in
+    let e = c.write_pair.ensures.cells_follow_put in
     record {
       stands = subst (λ x. Standing x m) (sym e) (stand_out (put_cells cs m c.args.key c.args.value) m s.0);
-      answers-put = c.write-pair.ensures.answers-put;
-      pairs-follow-put = ap held e ∙ s.1;
-      cap-stays = refl;
+      answers_put = c.write_pair.ensures.answers_put;
+      pairs_follow_put = ap held e ∙ s.1;
+      cap_stays = refl;
       placed = (e, refl);
     }

@@ -8,11 +8,11 @@ returns c =
     let cs = c.args.self.now.cells.now in
     let m = c.args.self.now.cap in
     let s = remove_stands cs m c.args.key (stand_in cs m c.requires) in
-    let e = c.mark-gone.ensures.cells-follow-remove in
+    let e = c.mark_gone.ensures.cells_follow_remove in
     record {
       stands = subst (λ x. Standing x m) (sym e) (stand_out (remove_cells cs c.args.key) m s.0);
-      answers-remove = c.mark-gone.ensures.answers-remove;
-      pairs-follow-remove = ap held e ∙ s.1;
-      cap-stays = refl;
+      answers_remove = c.mark_gone.ensures.answers_remove;
+      pairs_follow_remove = ap held e ∙ s.1;
+      cap_stays = refl;
       struck = (e, refl);
     }

@@ -15,22 +15,22 @@ returns-then-n-eq0 c =
     good_stops _ _ c.loop-i-test.true c.loop-i.invariant.0
     (zero_stops _ _ c.loop-i.invariant.0 (omega arith) (omega arith))
 
-pub returns-in-None-checked-add : goal.returns-in-None-checked-add
-returns-in-None-checked-add c =
+pub returns-in-None-checked_add : goal.returns-in-None-checked_add
+returns-in-None-checked_add c =
     good_stops _ _ c.loop-i-test.true c.loop-i.invariant.0
-    (over_stops _ _ (omega arith) (omega arith) (λ h. c.in-None-checked-add.ensures (omega (arith, c.in-Some.ensures))))
+    (over_stops _ _ (omega arith) (omega arith) (λ h. c.in-None-checked_add.ensures (omega (arith, c.in-Some.ensures))))
 
 pub returns-in-None : goal.returns-in-None
 returns-in-None c =
     good_stops _ _ c.loop-i-test.true c.loop-i.invariant.0
     (over_stops _ _ (omega arith) (omega arith) (λ h. c.in-None.ensures (omega arith)))
 
-pub returns-in-default : goal.returns-in-default
-returns-in-default c =
+pub returns-in_default : goal.returns-in_default
+returns-in_default c =
     good_stops _ _ c.loop-i-test.true c.loop-i.invariant.0 (other_stops _ _ (λ l h. omega arith))
 
-pub returns-in-default·2 : goal.returns-in-default·2
-returns-in-default·2 c =
+pub returns-in_default·2 : goal.returns-in_default·2
+returns-in_default·2 c =
     good_stops _ _ c.loop-i-test.true c.loop-i.invariant.0 (other_stops _ _ (λ l h. omega arith))
 
 pub loop-i-preserved : goal.loop-i-preserved
@@ -39,7 +39,7 @@ loop-i-preserved c =
     let long = length-take-le c.loop-i.i xs c.loop-i.auto.i-end in
     let more = take_more xs c.loop-i.i 0 c.loop-i-test.true in
     let product = c.in-Some.ensures in
-    let sum = c.in-Some-checked-add.ensures in
+    let sum = c.in-Some-checked_add.ensures in
     let shown = digits_value_push 10 (take c.loop-i.i xs) (get_or xs c.loop-i.i 0) in
     let digit = digit_value (get_or xs c.loop-i.i 0) (omega arith) (omega arith) in (
       rw more (good_more _ _ c.loop-i.invariant.0 (omega arith) (omega arith)
@@ -48,14 +48,14 @@ loop-i-preserved c =
       rw more (omega arith),
     )
 
-pub returns-then-is-empty : goal.returns-then-is-empty
-returns-then-is-empty c = empty_stops _ (eqb-true _ 0 (sym c.if-is-empty.ensures))
+pub returns-then-is_empty : goal.returns-then-is_empty
+returns-then-is_empty c = empty_stops _ (eqb-true _ 0 (sym c.if-is_empty.ensures))
 
 pub returns : goal.returns
 returns c =
     let xs = c.args.text.now in
     let all = take_all c.loop-i.i xs c.loop-i-test.false in
-    let some = eqb-false _ 0 (sym c.if-is-empty.ensures) in
+    let some = eqb-false _ 0 (sym c.if-is_empty.ensures) in
     let good : Good xs = rw all at c.loop-i.invariant.0 in
     let same : c.loop-i.n ≡ digits_value 10 xs = rw all at c.loop-i.invariant.1 in
     (omega (arith, good.fits), good_decimal xs good (omega arith) ∙ ap decimal (sym same))

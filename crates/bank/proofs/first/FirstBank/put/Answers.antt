@@ -14,12 +14,12 @@ returns-then-s-self g c =
     let st' = g.B.Bank.stores b' in
     let h = c.if-s-self.true in
     let f : Meaning → Meaning = λ m. put_meaning m c.args.key c.args.value in
-    let e = c.put.ensures.stores-follow-put in
+    let e = c.put.ensures.stores_follow_put in
     record {
       stands = c.put.ensures.stands;
-      answers-put = of_first (λ (m : Meaning). put_answer m.pairs m.cap c.args.key) n st c.args.s c.put.result h c.put.ensures.answers-put;
-      stores-follow-put = first_follow f n st c.args.s st' h e;
-      beyond-untouched = beyond_stay f n st c.args.s st' (g.B.Bank.beyond b) (g.B.Bank.beyond b') h e c.put.ensures.beyond-untouched;
+      answers_put = of_first (λ (m : Meaning). put_answer m.pairs m.cap c.args.key) n st c.args.s c.put.result h c.put.ensures.answers_put;
+      stores_follow_put = first_follow f n st c.args.s st' h e;
+      beyond_untouched = beyond_stay f n st c.args.s st' (g.B.Bank.beyond b) (g.B.Bank.beyond b') h e c.put.ensures.beyond_untouched;
       placed = (refl, when_first (g.B.Bank.placed b c.args.s c.args.key c.args.value b') (b' ≡ b) n c.args.s h c.put.ensures.placed);
     }
 
@@ -31,8 +31,8 @@ returns-else-s-self g c =
     let h = c.if-s-self.false in
     record {
       stands = c.requires;
-      answers-put = past_first (λ (m : Meaning). put_answer m.pairs m.cap c.args.key) n st c.args.s h;
-      stores-follow-put = change_take_past n st c.args.s (λ m. put_meaning m c.args.key c.args.value) h;
-      beyond-untouched = refl;
+      answers_put = past_first (λ (m : Meaning). put_answer m.pairs m.cap c.args.key) n st c.args.s h;
+      stores_follow_put = change_take_past n st c.args.s (λ m. put_meaning m c.args.key c.args.value) h;
+      beyond_untouched = refl;
       placed = (refl, when_past (g.B.Bank.placed b c.args.s c.args.key c.args.value b) (b ≡ b) n c.args.s h refl);
     }

@@ -15,12 +15,12 @@ returns-then-s-self g c =
     let st' = g.B.Bank.stores b' in
     let h = c.if-s-self.true in
     let f : Meaning → Meaning = λ m. erase_meaning m c.args.key in
-    let e = c.remove.ensures.stores-follow-remove in
+    let e = c.remove.ensures.stores_follow_remove in
     record {
       stands = c.remove.ensures.stands;
-      answers-remove = of_first (λ (m : Meaning). has m.pairs c.args.key) n st c.args.s c.remove.result h c.remove.ensures.answers-remove;
-      stores-follow-remove = first_follow f n st c.args.s st' h e;
-      beyond-untouched = beyond_stay f n st c.args.s st' (g.B.Bank.beyond b) (g.B.Bank.beyond b') h e c.remove.ensures.beyond-untouched;
+      answers_remove = of_first (λ (m : Meaning). has m.pairs c.args.key) n st c.args.s c.remove.result h c.remove.ensures.answers_remove;
+      stores_follow_remove = first_follow f n st c.args.s st' h e;
+      beyond_untouched = beyond_stay f n st c.args.s st' (g.B.Bank.beyond b) (g.B.Bank.beyond b') h e c.remove.ensures.beyond_untouched;
       struck = (refl, when_first (g.B.Bank.struck b c.args.s c.args.key b') (b' ≡ b) n c.args.s h c.remove.ensures.struck);
     }
 
@@ -32,8 +32,8 @@ returns-else-s-self g c =
     let h = c.if-s-self.false in
     record {
       stands = c.requires;
-      answers-remove = past_first (λ (m : Meaning). has m.pairs c.args.key) n st c.args.s h;
-      stores-follow-remove = change_take_past n st c.args.s (λ m. erase_meaning m c.args.key) h;
-      beyond-untouched = refl;
+      answers_remove = past_first (λ (m : Meaning). has m.pairs c.args.key) n st c.args.s h;
+      stores_follow_remove = change_take_past n st c.args.s (λ m. erase_meaning m c.args.key) h;
+      beyond_untouched = refl;
       struck = (refl, when_past (g.B.Bank.struck b c.args.s c.args.key b) (b ≡ b) n c.args.s h refl);
     }

@@ -12,4 +12,4 @@ returns c =
     let r = c.args.roster.now in
     let some : 1 ≤ r.len = r.some in
     let l = length_unpack r.word r.len in
-    ap (λ (u : ℕ). eqb u c.args.store) (c.number-at.ensures.1 r.len (omega arith)) ∙ last_is (unpack r.word r.len) c.args.store (r.len - 1) (omega arith)
+    ap (λ (u : ℕ). eqb u c.args.store) (c.number_at.ensures.1 r.len (omega arith)) ∙ last_is (unpack r.word r.len) c.args.store (r.len - 1) (omega arith)

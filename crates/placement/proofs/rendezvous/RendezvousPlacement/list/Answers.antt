@@ -15,7 +15,7 @@ heaviest-word-requires c =
     let r = c.args.roster.now in
     let fits : r.len ≤ 16 = r.fits in
     let l = length_members r in
-    let m : c.list-len-count.result ≤ r.len = (let e = c.list-len-count.ensures in omega arith) in
+    let m : c.list_len-count.result ≤ r.len = (let e = c.list_len-count.ensures in omega arith) in
     simp length-take (omega arith, omega arith)
 
 -- what the code takes is what the rule lists
@@ -26,12 +26,12 @@ listed r k copies count e =
     let m = length_members r in
     ap (λ (n : ℕ). take n (sort (ahead k) (members r))) (e ∙ ap (min (nearest 4 copies)) (sym m ∙ sym l)) ∙ take_whole (nearest 4 copies) (sort (ahead k) (members r))
 
-pub invariant-of-result : goal.invariant-of-result
-invariant-of-result c =
+pub invariant_of-result : goal.invariant_of-result
+invariant_of-result c =
     let r = c.args.roster.now in
-    let count = c.list-len-count.result in
+    let count = c.list_len-count.result in
     let some : 1 ≤ r.len = r.some in
-    let e = c.list-len-count.ensures in
+    let e = c.list_len-count.ensures in
     kept c.heaviest-word.result count r.stores (take count (sort (ahead c.args.key) (members r))) r.few c.heaviest-word.ensures
     (firsts_rostered (ahead c.args.key) (ahead_ordered c.args.key) r.stores count (members r) (omega arith) (members_rostered r))
 
@@ -40,9 +40,9 @@ unfolding rendezvous members
 returns c =
     let r = c.args.roster.now in
     let k = c.args.key in
-    let e = c.heaviest-word.ensures ∙ listed r k c.args.copies c.list-len-count.result c.list-len-count.ensures in
+    let e = c.heaviest-word.ensures ∙ listed r k c.args.copies c.list_len-count.result c.list_len-count.ensures in
     record {
-      follows-rule = e;
-      stores-kept = refl;
+      follows_rule = e;
+      stores_kept = refl;
       heaviest = heaviest_listed k (members r) c.args.copies _ e;
     }

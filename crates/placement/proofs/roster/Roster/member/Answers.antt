@@ -10,7 +10,7 @@ unfolding members
 returns-then-position-self c =
     let r = c.args.self.now in
     let l = length_unpack r.word r.len in
-    ap Some (c.number-at.ensures.1 r.len c.if-position-self.true) ∙ sym (nth_inside (unpack r.word r.len) c.args.position (omega arith))
+    ap Some (c.number_at.ensures.1 r.len c.if-position-self.true) ∙ sym (nth_inside (unpack r.word r.len) c.args.position (omega arith))
 
 pub returns-else-position-self : goal.returns-else-position-self
 unfolding members

@@ -7,13 +7,13 @@ use Rattle.placement.proofs.Digits.{length_unpack}
 use Rattle.placement.proofs.Holding.{found_from, found_here, found_later}
 use Rattle.placement.proofs.roster.Roster.position.Goals as goal
 
-pub returns-then-number-at-store : goal.returns-then-number-at-store
+pub returns-then-number_at-store : goal.returns-then-number_at-store
 unfolding members
-returns-then-number-at-store c =
+returns-then-number_at-store c =
     let r = c.args.self.now in
     let l = length_unpack r.word r.len in
     let h : c.loop-i.i < r.len = omega arith in
-    found_here c.args.store c.number-at.result c.loop-i.i (unpack r.word r.len) (omega arith) (c.number-at.ensures.1 r.len h) c.loop-i.invariant c.if-number-at-store.true
+    found_here c.args.store c.number_at.result c.loop-i.i (unpack r.word r.len) (omega arith) (c.number_at.ensures.1 r.len h) c.loop-i.invariant c.if-number_at-store.true
 
 pub loop-i-preserved : goal.loop-i-preserved
 unfolding members
@@ -21,7 +21,7 @@ loop-i-preserved c =
     let r = c.args.self.now in
     let l = length_unpack r.word r.len in
     let h : c.loop-i.i < r.len = omega arith in
-    found_later c.args.store c.number-at.result c.loop-i.i (unpack r.word r.len) (omega arith) (c.number-at.ensures.1 r.len h) c.loop-i.invariant c.if-number-at-store.false
+    found_later c.args.store c.number_at.result c.loop-i.i (unpack r.word r.len) (omega arith) (c.number_at.ensures.1 r.len h) c.loop-i.invariant c.if-number_at-store.false
 
 pub returns : goal.returns
 unfolding members

@@ -4,19 +4,19 @@ use Rattle.placement.specs.Rosters.{members}
 use Rattle.placement.proofs.Holding.{kept, members_rostered, length_members, push_roster, rostered_push_few, with_accepts}
 use Rattle.placement.proofs.roster.Roster.with.Goals as goal
 
-pub number-pushed-word-requires : goal.number-pushed-word-requires
-number-pushed-word-requires c =
+pub number_pushed-word-requires : goal.number_pushed-word-requires
+number_pushed-word-requires c =
     let r = c.args.self.now in
     let few : r.stores ≤ 16 = r.few in
     let l = rostered_push_few r.stores (members r) c.args.store (members_rostered r) (sym c.if-contains.ensures) c.if-store-self.false in
     let e = length_members r in
     (omega arith, omega arith)
 
-pub invariant-of-result : goal.invariant-of-result
+pub invariant_of-result : goal.invariant_of-result
 unfolding members
-invariant-of-result c =
+invariant_of-result c =
     let r = c.args.self.now in
-    kept c.number-pushed-word.result (r.len + 1) r.stores (members r ++ c.args.store ∷ []) r.few c.number-pushed-word.ensures
+    kept c.number_pushed-word.result (r.len + 1) r.stores (members r ++ c.args.store ∷ []) r.few c.number_pushed-word.ensures
     (push_roster r.stores (members r) c.args.store (members_rostered r) (sym c.if-contains.ensures) c.if-store-self.false)
 
 pub returns : goal.returns
@@ -24,6 +24,6 @@ unfolding members
 returns c =
     let r = c.args.self.now in
     record {
-      lists = ap Ok c.number-pushed-word.ensures ∙ sym (with_accepts r.stores c.args.store (members r) c.if-store-self.false (sym c.if-contains.ensures));
-      stores-held = refl;
+      lists = ap Ok c.number_pushed-word.ensures ∙ sym (with_accepts r.stores c.args.store (members r) c.if-store-self.false (sym c.if-contains.ensures));
+      stores_held = refl;
     }

@@ -26,29 +26,29 @@ pub returns-then-self-lt2 : goal.returns-then-self-lt2
 returns-then-self-lt2 c =
     let r = c.args.self.now in
     let l = length_members r in
-    record { lists = sym (without_only c.args.store (members r) (found r c.args.store c.in-Some.at c.in-Some.ensures) (omega arith)); stores-held = tt }
+    record { lists = sym (without_only c.args.store (members r) (found r c.args.store c.in-Some.at c.in-Some.ensures) (omega arith)); stores_held = tt }
 
-pub number-cut-requires : goal.number-cut-requires
-number-cut-requires c =
+pub number_cut-requires : goal.number_cut-requires
+number_cut-requires c =
     let r = c.args.self.now in
     let fits : r.len ≤ 16 = r.fits in
     let l = length_members r in
     let inside : c.in-Some.at < length (members r) = (place_cut c.args.store (members r) c.in-Some.at (sym c.in-Some.ensures)).0 in
     omega arith
 
-pub invariant-of-result : goal.invariant-of-result
-invariant-of-result c =
+pub invariant_of-result : goal.invariant_of-result
+invariant_of-result c =
     let r = c.args.self.now in
     let s = c.args.store in
     let l = length_members r in
-    kept c.number-cut.result (r.len - 1) r.stores (lists.without s (members r)) r.few
-    (taken r s c.in-Some.at c.number-cut.result c.if-self-lt2.false c.in-Some.ensures c.number-cut.ensures)
+    kept c.number_cut.result (r.len - 1) r.stores (lists.without s (members r)) r.few
+    (taken r s c.in-Some.at c.number_cut.result c.if-self-lt2.false c.in-Some.ensures c.number_cut.ensures)
     (without_roster r.stores (members r) s (members_rostered r) (found r s c.in-Some.at c.in-Some.ensures) (omega arith))
 
 pub returns-in-None : goal.returns-in-None
 returns-in-None c =
     let r = c.args.self.now in
-    record { lists = sym (without_none c.args.store (members r) (sym (place_member c.args.store (members r)) ∙ ap is_some (sym c.in-None.ensures))); stores-held = tt }
+    record { lists = sym (without_none c.args.store (members r) (sym (place_member c.args.store (members r)) ∙ ap is_some (sym c.in-None.ensures))); stores_held = tt }
 
 pub returns-else-self-lt2 : goal.returns-else-self-lt2
 unfolding members
@@ -57,7 +57,7 @@ returns-else-self-lt2 c =
     let s = c.args.store in
     let l = length_members r in
     record {
-      lists = ap Ok (taken r s c.in-Some.at c.number-cut.result c.if-self-lt2.false c.in-Some.ensures c.number-cut.ensures)
+      lists = ap Ok (taken r s c.in-Some.at c.number_cut.result c.if-self-lt2.false c.in-Some.ensures c.number_cut.ensures)
           ∙ sym (without_accepts s (members r) (found r s c.in-Some.at c.in-Some.ensures) (omega arith));
-      stores-held = refl;
+      stores_held = refl;
     }

@@ -10,7 +10,7 @@ returns-then-self-eq32 c =
     let i = c.args.self.now.at in
     record {
       line_stays = told.line_stays;
-      number-stays = told.number-stays;
+      number_stays = told.number_stays;
       cases = (
         reads_word line i _ _ c.if-self.true c.if-self-eq32.true told.text told.after,
         plain_word _ (drop (i + 1) line) told.text,
@@ -25,6 +25,6 @@ returns c =
     let i = c.args.self.now.at in
     record {
       line_stays = refl;
-      number-stays = refl;
+      number_stays = refl;
       cases = (refl, refl, no_space line i (λ lt e. elim c.else-self.branch [ else-self-via-then-self+else-self-eq32 w ↦ w.if-self-eq32.false e | else-self-via-else-self w ↦ omega (arith, w.if-self.false) ]));
     }

@@ -11,7 +11,7 @@ returns g c =
     let opens = opens_word line c.word.result.text.now c.args.self.now.at c.word.new.self.at c.requires told.text told.after in
     record {
       line_stays = told.line_stays;
-      number-stays = told.number-stays;
+      number_stays = told.number_stays;
       reads_first = MatchResult-weaker c.read.result c.read.ensures
           (λ v h. record { word = c.word.result.text.now; opens = opens; spelled = h })
           (λ f h. record { here = h.0 ∙ told.line; word = c.word.result.text.now; end = c.word.new.self.at; opens = opens; strays = record { far = h.1.far; at = omega (arith, h.1.at, told.column, c.requires); stops = h.1.stops } });

@@ -3,29 +3,29 @@ use Rattle.std.proofs.lemmas.Result.{err_from_is_err_and, MatchResult-weaker}
 use Rattle.grammar.proofs.Seams.{tail_gap, tail_miss}
 use Rattle.script.proofs.reader.Reader.next.Goals as goal
 
-pub returns-in-err-field : goal.returns-in-err-field
-returns-in-err-field g c =
-    let told = c.in-err-field.ensures in
+pub returns-in_err-field : goal.returns-in_err-field
+returns-in_err-field g c =
+    let told = c.in_err-field.ensures in
     let line = c.args.self.now.line.now in
     let i = c.args.self.now.at in
-    let p = err_from_is_err_and c.from-residual.result c.from-residual.ensures.1 in
+    let p = err_from_is_err_and c.from_residual.result c.from_residual.ensures.1 in
     record {
       line_stays = told.line_stays;
-      number-stays = told.number-stays;
-      reads-next = rw (p.1, p.2) (record { here = told.cases.0; misfits = λ ss. tail_gap g.T.Spelled.slot ss line i _ told.cases.2 told.cases.1 });
+      number_stays = told.number_stays;
+      reads_next = rw (p.1, p.2) (record { here = told.cases.0; misfits = λ ss. tail_gap g.T.Spelled.slot ss line i _ told.cases.2 told.cases.1 });
     }
 
 pub returns : goal.returns
 returns g c =
-    let told = c.in-ok-field.ensures in
+    let told = c.in_ok-field.ensures in
     let reads = told.cases.0 in
     let line = c.args.self.now.line.now in
     let i = c.args.self.now.at in
-    let word = c.in-ok-field.field-0.text.now in
+    let word = c.in_ok-field.field-0.text.now in
     record {
       line_stays = told.line_stays;
-      number-stays = told.number-stays;
-      reads-next = MatchResult-weaker c.read.result c.read.ensures
+      number_stays = told.number_stays;
+      reads_next = MatchResult-weaker c.read.result c.read.ensures
           (λ v h. record { word = word; reads = reads; spelled = h })
           (λ f h. record {
             here = h.0 ∙ told.cases.2;

@@ -9,6 +9,6 @@ returns c =
     let i = c.args.self.now.at in
     let part = take (length xs - i) (drop i xs) in
     let rest : part ≡ drop i xs = take_rest xs i in
-    let front : take (c.word-length-n.result - 0) part ≡ up_to (drop i xs) = ap (λ n. take n part) (omega arith) ∙ c.word-length-n.ensures.front ∙ ap up_to rest in
-    let long : c.word-length-n.result ≡ length (up_to (drop i xs)) = c.word-length-n.ensures.value ∙ ap (λ l. length (up_to l)) rest in
-    record { line_stays = refl; number-stays = refl; text = front; line = refl; column = refl; after = ap (λ n. i + n) (long ∙ sym (ap length front)) }
+    let front : take (c.word_length-n.result - 0) part ≡ up_to (drop i xs) = ap (λ n. take n part) (omega arith) ∙ c.word_length-n.ensures.front ∙ ap up_to rest in
+    let long : c.word_length-n.result ≡ length (up_to (drop i xs)) = c.word_length-n.ensures.value ∙ ap (λ l. length (up_to l)) rest in
+    record { line_stays = refl; number_stays = refl; text = front; line = refl; column = refl; after = ap (λ n. i + n) (long ∙ sym (ap length front)) }

@@ -3,8 +3,8 @@ use Rattle.grammar.specs.Spelling.{kinds}
 use Rattle.grammar.proofs.Fronts.{literal_stops}
 use Rattle.words.proofs.literals.KindSpelled.read.Goals as goal
 
-pub returns-in-default : goal.returns-in-default
-returns-in-default c =
-    literal_stops _ _ _ _ _ c.from-utf8.ensures.cases c.unwrap-or.ensures kinds (omega arith) refl
-    (c.in-default.not-IsTable, (c.in-default.not-log, (c.in-default.not-mixed, tt)))
+pub returns-in_default : goal.returns-in_default
+returns-in_default c =
+    literal_stops _ _ _ _ _ c.from_utf8.ensures.cases c.unwrap_or.ensures kinds (omega arith) refl
+    (c.in_default.not-IsTable, (c.in_default.not-log, (c.in_default.not-mixed, tt)))
     c.astray.result c.astray.ensures

@@ -3,8 +3,8 @@ use Rattle.grammar.specs.Spelling.{policies}
 use Rattle.grammar.proofs.Fronts.{literal_stops}
 use Rattle.words.proofs.literals.PolicySpelled.read.Goals as goal
 
-pub returns-in-default : goal.returns-in-default
-returns-in-default c =
-    literal_stops _ _ _ _ _ c.from-utf8.ensures.cases c.unwrap-or.ensures policies (omega arith) refl
-    (c.in-default.not-rendezvous, (c.in-default.not-jump, tt))
+pub returns-in_default : goal.returns-in_default
+returns-in_default c =
+    literal_stops _ _ _ _ _ c.from_utf8.ensures.cases c.unwrap_or.ensures policies (omega arith) refl
+    (c.in_default.not-rendezvous, (c.in_default.not-jump, tt))
     c.astray.result c.astray.ensures
