@@ -1,6 +1,8 @@
 // A bank: stores numbered from 0 by their place. It is empty, one store beside a smaller bank, or the
 // first stores of a longer one; the stores may differ in type. A number past the last answers as an
 // empty store of cap 0 would.
+#![tactic(auto)]
+
 ghost use Rattle.std.specs.Prelude.{◌≡◌, ℕ, List, length};
 ghost use Rattle.pairs.specs.Pairs.{find, has, next_key};
 ghost use Rattle.store.specs.Meaning.{Meaning};

@@ -1,6 +1,8 @@
 // The cells of a table and the walk over them, as data. The crate is theory: `specs/` says what a
 // walk meets, what cells hold and what each call leaves, and `proofs/` shows why the calls of a
 // table follow the store's meaning. The functions are in the crate `table`.
+#![tactic(auto)]
+
 ghost use Rattle.cells.specs.Laws.{WalkLaws};
 
 use store::value::Value;

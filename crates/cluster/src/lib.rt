@@ -1,4 +1,6 @@
 // Runs of calls: a service opened over a bank, a list of calls, and perhaps a close.
+#![tactic(auto)]
+
 ghost use Rattle.std.specs.Prelude.{◌≡◌, ◌≤◌, [], length, vec_len, vec_capacity, MatchResult};
 ghost use Rattle.machine.specs.Lent as lent;
 ghost use Rattle.serving.specs.Calls.{over};

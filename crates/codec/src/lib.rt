@@ -1,4 +1,6 @@
 // The bytes of a log: a record of four words and a trailer of two, each word 8 bytes, lowest first.
+#![tactic(auto)]
+
 ghost use Rattle.std.specs.Prelude.{◌≡◌, ◌+◌, ◌≤◌, length};
 ghost use Rattle.codec.specs.Words.{word_at, le, over};
 ghost use Rattle.codec.specs.Records.{encoded, decoded, trailer_encoded, trailer_decoded};

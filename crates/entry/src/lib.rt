@@ -1,4 +1,6 @@
 // Typed entries: each kind turns an entry into the two words that a store holds, and back.
+#![tactic(auto)]
+
 ghost use Rattle.std.specs.Prelude.{◌≡◌};
 ghost use Rattle.entry.specs.Figures.{FiguresHold};
 ghost use Rattle.entry.specs.Kinds.{Kind, Faithful, encoded, decoded};

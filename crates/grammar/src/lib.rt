@@ -1,5 +1,7 @@
 // What a line of a script may say, and where a line that says nothing stops. Theory: types, definitions and lemmas;
 // the crates `words` and `script` read lines by them.
+#![tactic(auto)]
+
 ghost use Rattle.std.specs.Prelude.{◌≡◌};
 ghost use Rattle.grammar.specs.Faults.{place_of};
 ghost use Rattle.grammar.specs.Lines.{call_of, Settles};

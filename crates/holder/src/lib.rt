@@ -1,5 +1,7 @@
 // A service of either kind, as whoever runs a list of calls holds it: every call is a value, and a join or leave in a
 // change, or a step without one, is refused while the program runs.
+#![tactic(auto)]
+
 ghost use Rattle.std.specs.Prelude.{◌≡◌, cond, eqb, length};
 ghost use Rattle.machine.specs.Lent as lent;
 ghost use Rattle.machine.specs.Outcomes.{answer_by, step_answer};

@@ -1,4 +1,6 @@
 // Prints what the image in a file holds: `inspect FILE`.
+#![tactic(auto)]
+
 use anyhow::anyhow;
 use inspection::fault::InspectFault;
 use inspection::{ROOM, describe};

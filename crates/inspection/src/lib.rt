@@ -1,5 +1,7 @@
 // What an image of a log holds, as text: its cap, its live pairs by ascending key, and how many of
 // its records are superseded.
+#![tactic(auto)]
+
 ghost use Rattle.std.specs.Prelude.{◌≡◌, true, ◌++◌, string_bytes, MatchResult, OnOk};
 ghost use Rattle.log_theory.specs.Tape.{tape, pairs_of, Standing};
 ghost use Rattle.log_theory.specs.Image.{is_image};
@@ -9,7 +11,7 @@ ghost use Rattle.inspection.specs.Faults.{Refusal, from_store, from_text};
 pub mod fault;
 
 use fault::InspectFault;
-use log::Log;
+use log_store::Log;
 use std::fmt;
 use store::Store;
 use store::fault::StoreFault;

@@ -1,5 +1,7 @@
 // Layers: each is again a store, over any store or two, held by value. Layers stack in any order and
 // depth, since a layer asks of what is below it only that it is a store.
+#![tactic(auto)]
+
 ghost use Rattle.std.specs.Prelude.{◌≡◌};
 ghost use Rattle.store.specs.Outcomes.{refuses};
 

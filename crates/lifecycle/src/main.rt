@@ -1,5 +1,7 @@
 // The life of a service: opened, joined, stepped to the end of the change, joined again, and closed in that change.
 // What the states forbid is tried on this program by checks/refused-programs.sh.
+#![tactic(auto)]
+
 use bank::Bank;
 use bank::beside::Beside;
 use bank::empty::Empty;

@@ -1,4 +1,6 @@
 // locate POLICY MEMBERS COPIES KEY...: where keys live, and where they will live once the last member has left.
+#![tactic(auto)]
+
 use anyhow::anyhow;
 use locator::answer::locate;
 use locator::words::LocateFault;

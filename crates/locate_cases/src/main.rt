@@ -1,5 +1,7 @@
 // Answers a question for each line of standard input, as `locate` answers its arguments: what it writes is compared
 // with what reference/locate.py writes.
+#![tactic(auto)]
+
 use anyhow::anyhow;
 use locator::answer::locate;
 use locator::words::LocateFault;

@@ -1,11 +1,13 @@
 // The log on examples. The crate has tests alone: what images mean is worked out in them once more,
 // from the format's rules, with none of the log's functions.
+#![tactic(auto)]
+
 ghost use Rattle.log_theory.specs.Tape.{tape, Standing};
 
 #[cfg(test)]
 mod tests {
     use codec::Record;
-    use log::Log;
+    use log_store::Log;
     use std::alloc::{AllocError, Global};
     use std::process::Abort;
     use std::test::Fail;

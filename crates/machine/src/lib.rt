@@ -4,6 +4,8 @@
 // such map: its pairs lie in stores that each call lends it. specs/ defines both, over the same calls and answers, and
 // proofs/ shows that for every list of calls they give the same answers, and that each store then holds exactly the
 // machine's keys placed on it. Theory: the functions below do nothing, and their contracts are the statements.
+#![tactic(auto)]
+
 ghost use Rattle.std.specs.Prelude.{◌≡◌};
 ghost use Rattle.machine.specs.Faults.{fault_number};
 ghost use Rattle.machine.specs.Holds.{ListsAgree, OpeningHolds};

@@ -1,4 +1,6 @@
 // Where a key lives: rosters of stores, and the policies that list the stores of a key.
+#![tactic(auto)]
+
 pub mod jump;
 pub mod laws;
 pub mod placing;

@@ -1,3 +1,5 @@
 // Examples of rosters, selection and placements.
+#![tactic(auto)]
+
 #[cfg(test)]
 mod rosters;

@@ -1,5 +1,7 @@
 // retire: three stores hold two copies of each entry; store 0 is retired while the service runs, and one entry is
 // written halfway through the change. Prints every call's answer, then what is left.
+#![tactic(auto)]
+
 use bank::Bank;
 use bank::beside::Beside;
 use bank::empty::Empty;

@@ -1,4 +1,6 @@
 // Reads a script line by line: the lines of a text, the words of a line, and the command or opening that a line gives.
+#![tactic(auto)]
+
 pub mod commands;
 pub mod lines;
 pub mod reader;

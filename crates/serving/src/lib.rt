@@ -1,4 +1,6 @@
 // The calls that a service takes in either state: they reach the stores of one key. Written once, for whatever serves.
+#![tactic(auto)]
+
 ghost use Rattle.std.specs.Prelude.{◌≡◌};
 ghost use Rattle.placement.specs.Laws.{Rule};
 ghost use Rattle.placement.specs.Rosters.{members};

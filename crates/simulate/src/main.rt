@@ -1,4 +1,6 @@
 // simulate: reads a script from standard input, runs it, and prints its transcript.
+#![tactic(auto)]
+
 use anyhow::anyhow;
 use simulation::simulate;
 use std::io::Read;

@@ -1,6 +1,8 @@
 // Runs many scripts, which stand in standard input one behind the other with the byte 30 (record separator) between
 // them, and prints for each the line `script N` and its transcript: what it writes is compared with what
 // reference/simulate.py writes.
+#![tactic(auto)]
+
 use anyhow::anyhow;
 use simulation::simulate;
 use std::io::Read;

@@ -4,7 +4,7 @@ use Rattle.store.specs.Meaning.{Meaning}
 use Rattle.cells.specs.Held as cells
 use Rattle.table.specs.declared.Table.{Table}
 use Rattle.log_theory.specs.Tape as tapes
-use Rattle.log.specs.declared.Log.{Log}
+use Rattle.log_store.specs.declared.Log.{Log}
 use Rattle.layers.specs.declared.mixed.Mixed.{Mixed}
 use Rattle.layers.specs.declared.mixed.mark.Marked.{Marked}
 use Rattle.layers.specs.declared.mixed.mark.Marked.TheVariants.{First, Second}

@@ -1,4 +1,6 @@
 // Runs a script over stores of its own, and gives the transcript.
+#![tactic(auto)]
+
 ghost use Rattle.std.specs.Prelude.{◌≡◌, IfOk, string_bytes, MatchResult};
 ghost use Rattle.transcript.specs.Sessions.{Transcript};
 ghost use Rattle.simulation.specs.Ends.{Passes, Fails, refused_line, Prints};

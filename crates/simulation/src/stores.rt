@@ -6,7 +6,7 @@ use cells::Cell;
 use grammar::opening::Kind;
 use layers::mixed::Mixed;
 use layers::mixed::mark::Marked;
-use log::Log;
+use log_store::Log;
 use table::Table;
 
 // Which of the two a store with an even number is.

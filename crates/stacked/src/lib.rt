@@ -1,4 +1,6 @@
 // Layers upon layers: a mirror of a quota over a table and of a mixed of two tables, opened and used.
+#![tactic(auto)]
+
 ghost use Rattle.std.specs.Prelude.{◌≡◌, min, [], Ok};
 ghost use Rattle.pairs.specs.Pairs.{erase};
 ghost use Rattle.store.specs.Outcomes.{put_pairs};

@@ -3,6 +3,8 @@
 // A store's meaning is a finite map from keys to values, called its pairs, and a number, its cap.
 // Every implementation (table, layers) states its own pairs, cap and standing as ghost members,
 // and proves the same contracts; whoever uses a store is proved against those alone.
+#![tactic(auto)]
+
 ghost use Rattle.std.specs.Prelude.{◌≡◌, ℕ, List, length};
 ghost use Rattle.pairs.specs.Pairs.{Pair, find, has, erase, next_key};
 ghost use Rattle.store.specs.Laws.{CallLaws, RowLaws};

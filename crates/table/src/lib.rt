@@ -3,6 +3,8 @@
 // The walk for a key starts at the key modulo the number of cells, goes up by one, wrapping, and
 // stops at the key, at an empty cell or after all cells. A new pair takes the first cell of the walk
 // that is not live, a replaced one stays in its cell, and a removed one leaves its cell gone.
+#![tactic(auto)]
+
 ghost use Rattle.std.specs.Prelude.{◌≡◌, true, false, [], length};
 ghost use Rattle.pairs.specs.Pairs.{find, has, next_key};
 ghost use Rattle.store.specs.Outcomes.{put_answer};

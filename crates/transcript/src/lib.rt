@@ -1,4 +1,6 @@
 // What a run of a script prints: a line for each line of the script, then the state of every store.
+#![tactic(auto)]
+
 ghost use Rattle.transcript.specs.Sessions.{OneTranscript};
 
 pub mod fault;

@@ -1,4 +1,6 @@
 // What the service does to the stores of a list: small functions over a bank and a list of store numbers.
+#![tactic(auto)]
+
 ghost use Rattle.std.specs.Prelude.{◌≡◌, ◌+◌, ◌<◌, ◌≤◌, ◌++◌, length, take, slice_index};
 ghost use Rattle.placement.specs.Rosters.{members};
 ghost use Rattle.machine.specs.Books.{first_outside};

@@ -1,4 +1,6 @@
 // The words of a script: each sort of word is read by its type, or the place is told where it stops beginning one.
+#![tactic(auto)]
+
 ghost use Rattle.std.specs.Prelude.{ℕ, List, MatchResult};
 ghost use Rattle.grammar.specs.Languages.{Stops};
 ghost use Rattle.grammar.specs.Slots.{Slot, In};
