@@ -73,14 +73,26 @@ length_members r = length_unpack r.word r.len
 
 -- the facts in a roster's ghost fields, from what its word lists
 abbrev pub Kept : ℕ → ℕ → ℕ → Type 0
-Kept word len n = (n ≤ 16) × ((1 ≤ len) × ((len ≤ 16) × ((all_distinct (unpack word len) ≡ true) × (((s : ℕ) → member s (unpack word len) ≡ true → s < n) × Unit {0}))))
+Kept word len n = record {
+  few : n ≤ 16;
+  some : 1 ≤ len;
+  fits : len ≤ 16;
+  distinct : all_distinct (unpack word len) ≡ true;
+  below : (s : ℕ) → member s (unpack word len) ≡ true → s < n;
+}
 
 pub kept : (word len n : ℕ) (S : List ℕ) → n ≤ 16 → unpack word len ≡ S → Rostered n S → Kept word len n
 kept word len n S few e h =
     let l : len ≡ length S = sym (length_unpack word len) ∙ ap length e in
     let some : 1 ≤ length S = h.some in
     let most : length S ≤ n = rostered_few n S h in
-    (few, (omega arith, (omega arith, subst (λ (L : List ℕ). (all_distinct L ≡ true) × (((s : ℕ) → member s L ≡ true → s < n) × Unit {0})) (sym e) (test_from_distinct S h.distinct, (h.below, tt)))))
+    record {
+      few = few;
+      some = omega arith;
+      fits = omega arith;
+      distinct = subst (λ (L : List ℕ). all_distinct L ≡ true) (sym e) (test_from_distinct S h.distinct);
+      below = subst (λ (L : List ℕ). (s : ℕ) → member s L ≡ true → s < n) (sym e) h.below;
+    }
 
 -- places and members
 pub some_mapped : (o : Option ℕ) → is_some (option_map (λ i. i + 1) o) ≡ is_some o
