@@ -43,7 +43,8 @@ fn add_pair(out: &mut String, key: u64, value: Value) -> fmt::Result
 {
     let a = value.a;
     let b = value.b;
-    writeln!(out, "pair {key} {a} {b}")
+    writeln!(out, "pair {key} {a} {b}")?;
+    Ok(())
 }
 
 // Adds a line for each pair, by ascending key.
