@@ -13,7 +13,7 @@ returns-in_err--keyword c =
 pub returns : goal.returns
 returns c =
     let new = c.new-r.ensures in
-    let told = c.in_ok--keyword.ensures in
+    let told = c.in_ok-_keyword.ensures in
     let first = rw new.line_is_given at told.reads_first in
     MatchResult-weaker c.cluster.result c.cluster.ensures
     (λ x h. gives_opening _ _ _ _ x first (told.line_stays ∙ new.line_is_given) h)

@@ -29,8 +29,8 @@ pub returns-in_default : goal.returns-in_default
 returns-in_default c =
     good_stops _ _ c.loop-i-test.true c.loop-i.invariant.0 (other_stops _ _ (λ l h. omega arith))
 
-pub returns-in_default·2 : goal.returns-in_default·2
-returns-in_default·2 c =
+pub returns-in_default-2 : goal.returns-in_default-2
+returns-in_default-2 c =
     good_stops _ _ c.loop-i-test.true c.loop-i.invariant.0 (other_stops _ _ (λ l h. omega arith))
 
 pub loop-i-preserved : goal.loop-i-preserved
