@@ -65,8 +65,14 @@ pub fn write_row(out: &mut String, number: usize, outcome: &Result<Report, RunFa
     ensures { OnOk result (string_bytes out.new ≡ string_bytes out.old ++ row_text number outcome.now) }
 {
     match outcome {
-        Ok(report) => writeln!(out, "{number} {report}"),
-        Err(fault) => writeln!(out, "{number} {fault}"),
+        Ok(report) => {
+            writeln!(out, "{number} {report}")?;
+            Ok(())
+        }
+        Err(fault) => {
+            writeln!(out, "{number} {fault}")?;
+            Ok(())
+        }
     }
 }
 
