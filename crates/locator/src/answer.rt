@@ -44,7 +44,10 @@ fn write_place(
             write_stores(out, &list)?;
             Ok(())
         }
-        None => write!(out, "-"),
+        None => {
+            write!(out, "-")?;
+            Ok(())
+        }
     }
 }
 
