@@ -3,10 +3,10 @@ use Rattle.std.proofs.lemmas.Result.{MatchResult-weaker}
 use Rattle.grammar.proofs.Going.{refuses_opening_first, refuses_opening_rest, gives_opening}
 use Rattle.script.proofs.commands.read_opening.Goals as goal
 
-pub returns-in_err--keyword : goal.returns-in_err--keyword
-returns-in_err--keyword c =
+pub returns-in_err-_keyword : goal.returns-in_err-_keyword
+returns-in_err-_keyword c =
     let new = c.new-r.ensures in
-    let told = c.in_err--keyword.ensures in
+    let told = c.in_err-_keyword.ensures in
     refuses_opening_first _ _ _ _ _ c.from_residual.ensures.1
     (rw (← new.line_is_given, ← new.number_is_given) told.reads_first)
 
