@@ -1,5 +1,5 @@
 -- What the calls of a table do: a standing table stays standing, its pairs follow the store's
--- meaning, and its cells are those of `put-cells` and `remove-cells`.
+-- meaning, and its cells are those of `put_cells` and `remove_cells`.
 use Rattle.std.proofs.Common.{◌≡◌, ℕ, ◌<◌, ◌≤◌, true, false, cond, not, ◌&&◌, eqb, leb, ◌⊎◌, List, length, set, is_some, Some, None, Ok, Err, Option, sym, refl, ap, ◌∙◌, subst, ⊎_elim, arith}
 use Rattle.std.proofs.lemmas.List.{get_or-set_same, get_or-set_other, length-set}
 use Rattle.std.proofs.lemmas.Bool.{ne_eqb, cases_eq, cases_Bool, cond-true, cond-false, cond_both, eqb-true, leb-false, le-leb, lt-leb}

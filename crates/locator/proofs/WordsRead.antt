@@ -1,14 +1,13 @@
 -- From the words that were read to the question, or to the first word that is wrong.
-use Rattle.std.proofs.Common.{◌≡◌, ℕ, zero, suc, ◌+◌, ◌<◌, ◌≤◌, true, List, [], ◌∷◌, ◌++◌, map, length, get_or, drop, IsErrAnd, Ok, Err, string_bytes, decimal, Result, String, sym, refl, ap, ◌∙◌, subst, append_assoc, arith, MatchResult}
+use Rattle.std.proofs.Common.{◌≡◌, ℕ, zero, suc, ◌+◌, ◌<◌, ◌≤◌, List, [], ◌∷◌, ◌++◌, map, length, get_or, drop, IsErrAnd, Ok, Err, string_bytes, decimal, Result, String, sym, refl, ap, ◌∙◌, subst, append_assoc, arith, MatchResult}
 use Rattle.std.specs.declared.alloc.Global.{Global}
 use Rattle.std.proofs.lemmas.List.{length-map, map-append, drop_more}
 use Rattle.placement.specs.declared.policies.Policy.{Policy}
 use Rattle.locator.specs.declared.words.Reason.{Reason}
 use Rattle.locator.specs.declared.words.Reason.TheVariants.{Missing, NotAPolicy, NotANumber, NotOneToSixteen}
-use Rattle.locator.specs.declared.words.WordFault.{WordFault}
 use Rattle.locator.specs.declared.words.LocateFault.{LocateFault}
 use Rattle.locator.specs.declared.words.LocateFault.TheVariants.{Word, Memory}
-use Rattle.locator.specs.Questions.{Text, policy_word, texts, Writes, Right, Says, Wrong, BadNumber, BadMembers, NoKey, Refuses}
+use Rattle.locator.specs.Questions.{Text, policy_word, texts, Writes, Right, Says, BadNumber, BadMembers, NoKey, Refuses}
 
 pub texts_at : (ss : List (String Global)) (i : ℕ) (s : String Global) → i < length ss → s ≡ get_or ss i s → get_or (texts ss) i [] ≡ string_bytes s
 texts_at [] i s h e = absurd (omega arith)

@@ -1,7 +1,6 @@
 -- When words are a question, and which word is wrong where they are none.
 use Rattle.std.specs.Prelude.{◌≡◌, ℕ, zero, suc, ◌^◌, ◌<◌, ◌≤◌, List, [], ◌∷◌, map, length, vec_items, string_bytes, codes, decimal, String, ◌≢◌, slice_index_or}
 use Rattle.std.specs.declared.alloc.Global.{Global}
-use Rattle.std.specs.List.{AllByRecursion as All}
 use Rattle.placement.specs.declared.policies.Policy.{Policy}
 use Rattle.placement.specs.declared.policies.Policy.TheVariants.{Rendezvous, Jump}
 use Rattle.locator.specs.declared.words.Question.{Question}

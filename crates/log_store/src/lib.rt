@@ -431,8 +431,8 @@ impl<'a> Log<'a> {
     }
 }
 
-// The bytes, all of them, and the records in use after a put and a removal: `put-tape` and
-// `remove-tape` of those before.
+// The bytes, all of them, and the records in use after a put and a removal: `put_tape` and
+// `remove_tape` of those before.
 impl<'a> Store for Log<'a> {
     ghost pairs = { λ t. pairs_of (tape t.bytes.now t.used) };
 

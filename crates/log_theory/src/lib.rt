@@ -1,6 +1,6 @@
 // The theory of logs: `specs/` says what records mean, what each call leaves of the bytes, and what
 // an image is; `proofs/` shows why the calls of a log follow the store's meaning. The functions are
-// in the crate `log`.
+// in the crate `log_store`.
 #![tactic(auto)]
 
 ghost use Rattle.log_theory.specs.Laws.{Deciding, Compacting, Behind, Imaging};

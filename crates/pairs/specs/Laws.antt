@@ -27,7 +27,7 @@ pub record Filters (V : Type 0) : Type 0 where
   pub of_erase : (f : ℕ → Bool) (m : List (Pair V)) (k : ℕ) → Ascending m → keep f (erase m k) ≡ erase (keep f m) k
   pub of_keep : (f g : ℕ → Bool) (m : List (Pair V)) → keep f (keep g m) ≡ keep (λ k. f k && g k) m
 
--- `next-key m c` is the least key of m that is not below c, and none where there is no such key
+-- `next_key m c` is the least key of m that is not below c, and none where there is no such key
 pub record Nexts (V : Type 0) : Type 0 where
   pub present : (m : List (Pair V)) (c k : ℕ) → next_key m c ≡ Some k → has m k ≡ true
   pub not_below : (m : List (Pair V)) (c k : ℕ) → next_key m c ≡ Some k → c ≤ k

@@ -1,9 +1,9 @@
 -- Rosters: what their type keeps, and what their calls make of the list.
-use Rattle.std.proofs.Common.{◌≡◌, ℕ, zero, suc, ◌+◌, ◌<◌, ◌≤◌, Bool, true, false, cond, ◌&&◌, eqb, ltb, leb, ◌⊎◌, List, [], ◌∷◌, ◌++◌, length, get_or, take, drop, is_some, Some, None, Ok, Err, Option, sym, refl, ap, ◌∙◌, subst, inl, inr, add-zero, arith, length-append}
+use Rattle.std.proofs.Common.{◌≡◌, ℕ, zero, suc, ◌+◌, ◌<◌, ◌≤◌, true, false, cond, ◌&&◌, eqb, ltb, leb, List, [], ◌∷◌, ◌++◌, length, get_or, take, drop, is_some, Some, None, Ok, Err, Option, sym, refl, ap, ◌∙◌, subst, inl, inr, add-zero, arith, length-append}
 use Rattle.std.specs.Option.{option_map}
 use Rattle.std.proofs.lemmas.Bool.Decides.{nat_tests}
 use Rattle.std.proofs.lemmas.Bool.{cases_Bool, cond_both, cond-true, cond-false, eq-eqb, ne_eqb, lt-ltb}
-use Rattle.lists.specs.Numbers.{member, place_of, Distinct, all_distinct, without, count_up}
+use Rattle.lists.specs.Numbers.{member, place_of, all_distinct, without, count_up}
 use Rattle.lists.proofs.Members.{member_append, without_distinct, without_in, without_absent, without_length, push_distinct, pigeons, count_up_member, count_up_high, count_up_distinct, length_count_up, distinct_from_test, test_from_distinct}
 use Rattle.lists.proofs.Places.{onward}
 use Rattle.placement.specs.declared.roster.Roster.{Roster}

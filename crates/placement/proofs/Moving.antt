@@ -1,10 +1,10 @@
 -- Under a lawful rule a leave and a join each move at most one store of a key.
-use Rattle.std.proofs.Common.{◌≡◌, ℕ, zero, suc, ◌+◌, ◌<◌, ◌≤◌, min, max, Bool, true, false, cond, eqb, ◌⊎◌, List, [], ◌∷◌, ◌++◌, length, sym, refl, ap, ◌∙◌, subst, inl, inr, arith, length-append}
+use Rattle.std.proofs.Common.{◌≡◌, ℕ, ◌<◌, ◌≤◌, true, false, eqb, List, [], ◌∷◌, ◌++◌, length, sym, ap, ◌∙◌, subst, inl, inr, arith, length-append}
 use Rattle.std.proofs.lemmas.Bool.Decides.{nat_tests}
 use Rattle.std.proofs.lemmas.Bool.{cases_eq, cases_Bool, ne_eqb, both_ways}
 use Rattle.lists.specs.Numbers.{member, Distinct, without}
-use Rattle.lists.proofs.Members.{member_append, without_in, without_out, without_length, without_distinct, without_gone, push_without, pigeons}
-use Rattle.placement.specs.Laws.{Rule, Rostered, Lawful, nearest, OneMoreAtMost, OneMoves, MovesOne, LawfulMovesOne}
+use Rattle.lists.proofs.Members.{member_append, without_in, without_length, without_distinct, without_gone, push_without, pigeons}
+use Rattle.placement.specs.Laws.{Rule, Rostered, Lawful, OneMoreAtMost, OneMoves, LawfulMovesOne}
 use Rattle.placement.proofs.Holding.{push_roster, without_roster}
 
 -- two lists, of which the second has all of the first but m and is no longer: it has at most one number that the first lacks

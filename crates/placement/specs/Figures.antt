@@ -1,5 +1,5 @@
 -- Worked figures: what the definitions give, each beside what it should be.
-use Rattle.std.specs.Prelude.{◌≡◌, ℕ, ◌-◌, ◌^◌, List, [], ◌∷◌, map}
+use Rattle.std.specs.Prelude.{◌≡◌, ℕ, ◌-◌, ◌^◌, List, ◌∷◌, map}
 use Rattle.std.specs.List.{AllByRecursion as All}
 use Rattle.lists.specs.Numbers.{count_up}
 use Rattle.placement.specs.Rendezvous.{digest, weight_at}

@@ -1,14 +1,13 @@
 -- The first of a roster under an order of each key are a lawful placement; rendezvous is one.
-use Rattle.std.specs.Prelude.{◌≡◌, ℕ, zero, suc, ◌+◌, ◌<◌, ◌≤◌, min, max, Bool, true, false, cond, eqb, ltb, leb, List, [], ◌∷◌, ◌++◌, length, take, refl}
+use Rattle.std.specs.Prelude.{◌≡◌, ℕ, zero, suc, ◌≤◌, min, Bool, true, List, [], ◌∷◌, length, take, refl}
 use Rattle.std.proofs.Common.{sym, ap, subst, ◌∙◌, length-take, arith}
 use Rattle.std.proofs.lemmas.Bool.Decides.{nat_tests}
-use Rattle.lists.specs.Numbers.{member, Distinct, without}
 use Rattle.lists.proofs.Fronts.{take_member, take_distinct, take_without_kept, take_without_same}
-use Rattle.order.specs.Sorting.{Ordered, sort, FrontInOrder}
+use Rattle.order.specs.Sorting.{Ordered, sort}
 use Rattle.order.proofs.Sorts.{sort_rising, length_sort, rising_in_order, rising_take}
 use Rattle.order.proofs.Numbers.{member_sort, sort_distinct, without_sort, listed_first}
 use Rattle.placement.specs.Laws.{Rule, Rostered, Lawful, nearest}
-use Rattle.placement.specs.Rendezvous.{weight, ahead, rendezvous, Heaviest}
+use Rattle.placement.specs.Rendezvous.{ahead, rendezvous, Heaviest}
 
 pub ahead_ordered : (k : ℕ) → Ordered (ahead k)
 ahead_ordered k = record {

@@ -2,7 +2,7 @@
 use Rattle.std.specs.Prelude.{◌≡◌, ℕ, ◌+◌, ◌*◌, ◌/◌, ◌%◌, ◌^◌, Bool, true, false, cond, List, take, ◌==◌, bit_xor, nat_le, nat_lt}
 use Rattle.lists.specs.Numbers.{member}
 use Rattle.order.specs.Sorting.{sort, FrontInOrder}
-use Rattle.placement.specs.Laws.{Rule, Rostered, nearest}
+use Rattle.placement.specs.Laws.{Rule, nearest}
 
 -- a key folded to 31 bits
 abbrev pub digest : ℕ → ℕ

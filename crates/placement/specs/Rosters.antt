@@ -1,6 +1,6 @@
 -- What a roster lists, and what its calls answer. A roster is an ordered list of 1 to 16 distinct store numbers,
 -- each below the number of stores.
-use Rattle.std.specs.Prelude.{◌≡◌, ℕ, ◌<◌, ◌≤◌, Bool, true, false, cond, ◌&&◌, List, [], ◌∷◌, ◌++◌, length, Ok, Err, Result, nat_le, nat_lt}
+use Rattle.std.specs.Prelude.{ℕ, cond, ◌&&◌, List, [], ◌∷◌, ◌++◌, length, Ok, Err, Result, nat_le, nat_lt}
 use Rattle.lists.specs.Numbers.{member, without, count_up}
 use Rattle.placement.specs.declared.roster.Roster.{Roster}
 use Rattle.placement.specs.declared.roster.RosterFault.{RosterFault}

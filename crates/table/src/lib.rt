@@ -180,7 +180,7 @@ impl<'a> Table<'a> {
     }
 }
 
-// The cells, all of them, after a put and a removal: `put-cells` and `remove-cells` of those before.
+// The cells, all of them, after a put and a removal: `put_cells` and `remove_cells` of those before.
 impl<'a> Store for Table<'a> {
     ghost pairs = { λ t. held t.cells.now };
 

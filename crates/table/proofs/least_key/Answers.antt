@@ -1,4 +1,4 @@
-use Rattle.std.proofs.Common.{◌+◌, min, drop, Some, sym, ap, ◌∙◌}
+use Rattle.std.proofs.Common.{◌+◌, drop, Some, sym, ap, ◌∙◌}
 use Rattle.pairs.specs.Pairs.{next_key, nearer}
 use Rattle.cells.specs.Held.{held}
 use Rattle.cells.proofs.Turns.{near_not, near_all, near_taken, near_left}

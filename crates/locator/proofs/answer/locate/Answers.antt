@@ -1,4 +1,4 @@
-use Rattle.std.proofs.Common.{◌≡◌, ℕ, List, [], ◌++◌, vec_items, string_bytes, sym, refl, ap, ◌∙◌}
+use Rattle.std.proofs.Common.{ℕ, List, ◌++◌, vec_items, ap, ◌∙◌}
 use Rattle.lists.specs.Numbers.{count_up}
 use Rattle.placement.specs.Policies.{rule_of}
 use Rattle.locator.specs.Questions.{Text}

@@ -1,4 +1,4 @@
-use Rattle.std.proofs.Common.{◌≡◌, ℕ, ◌-◌, List, ap, ◌∙◌}
+use Rattle.std.proofs.Common.{ℕ, ◌-◌, List, ap, ◌∙◌}
 use Rattle.placement.specs.Rosters.{without_store}
 use Rattle.locator.specs.Lines.{members_of}
 use Rattle.locator.proofs.Written.{left_over}

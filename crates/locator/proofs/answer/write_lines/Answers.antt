@@ -1,7 +1,6 @@
-use Rattle.std.proofs.Common.{◌≡◌, ℕ, ◌+◌, ◌<◌, ◌≤◌, List, [], ◌∷◌, ◌++◌, length, get_or, drop, string_bytes, sym, refl, ap, ◌∙◌, append-nil, arith}
+use Rattle.std.proofs.Common.{ℕ, ◌+◌, List, ◌++◌, get_or, drop, string_bytes, sym, ap, ◌∙◌, append-nil}
 use Rattle.std.proofs.lemmas.List.{drop_more, drop_all}
 use Rattle.placement.specs.Policies.{rule_of}
-use Rattle.locator.specs.Questions.{Text}
 use Rattle.locator.specs.Lines.{line, lines, members_of}
 use Rattle.locator.proofs.Written.{one_more}
 use Rattle.locator.proofs.answer.write_lines.Goals as goal

@@ -1,4 +1,4 @@
-use Rattle.std.proofs.Common.{◌≡◌, ℕ, List, ◌++◌, string_bytes, Option, sym, ap, ◌∙◌}
+use Rattle.std.proofs.Common.{ℕ, List, ◌++◌, string_bytes, Option, sym, ap, ◌∙◌}
 use Rattle.placement.specs.Policies.{rule_of}
 use Rattle.placement.specs.declared.roster.Roster.{Roster}
 use Rattle.locator.specs.Lines.{joined, stores_of, members_of}

@@ -1,8 +1,8 @@
-use Rattle.std.proofs.Common.{◌≡◌, ℕ, ◌+◌, ◌<◌, ◌≤◌, List, [], ◌∷◌, ◌++◌, length, drop, string_bytes, codes, decimal, sym, refl, ap, ◌∙◌, append_assoc, append-nil, arith}
+use Rattle.std.proofs.Common.{ℕ, ◌+◌, ◌<◌, ◌≤◌, List, ◌++◌, length, drop, string_bytes, codes, decimal, sym, ap, ◌∙◌, append-nil, arith}
 use Rattle.std.proofs.lemmas.List.{drop_all}
 use Rattle.placement.specs.Rosters.{members}
 use Rattle.locator.specs.Questions.{Text}
-use Rattle.locator.specs.Lines.{more_stores, joined}
+use Rattle.locator.specs.Lines.{more_stores}
 use Rattle.locator.proofs.Written.{one_more, store_at, stores_more, joined_parts}
 use Rattle.locator.proofs.answer.write_stores.Goals as goal
 

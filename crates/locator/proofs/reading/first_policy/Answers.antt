@@ -1,5 +1,4 @@
-use Rattle.std.proofs.Common.{◌≡◌, ℕ, ◌<◌, ◌≤◌, [], length, get_or, sym, refl, ◌∙◌, arith}
-use Rattle.locator.specs.Questions.{texts}
+use Rattle.std.proofs.Common.{◌<◌, length, sym, refl, ◌∙◌, arith}
 use Rattle.locator.proofs.WordsRead.{texts_at, length_texts}
 use Rattle.locator.proofs.reading.first_policy.Goals as goal
 

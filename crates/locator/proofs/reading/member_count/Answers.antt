@@ -1,4 +1,4 @@
-use Rattle.std.proofs.Common.{◌≡◌, ℕ, ◌<◌, ◌≤◌, length, refl, inl, inr, arith}
+use Rattle.std.proofs.Common.{◌<◌, ◌≤◌, refl, inl, inr, arith}
 use Rattle.locator.proofs.WordsRead.{length_texts}
 use Rattle.locator.proofs.reading.member_count.Goals as goal
 

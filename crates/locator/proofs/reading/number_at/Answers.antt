@@ -1,5 +1,4 @@
-use Rattle.std.proofs.Common.{◌≡◌, ℕ, ◌<◌, ◌≤◌, [], length, get_or, string_bytes, sym, refl, ◌∙◌, arith}
-use Rattle.locator.specs.Questions.{texts}
+use Rattle.std.proofs.Common.{sym, refl, ◌∙◌, arith}
 use Rattle.locator.proofs.WordsRead.{texts_at, length_texts}
 use Rattle.locator.proofs.reading.number_at.Goals as goal
 

@@ -1,4 +1,4 @@
-use Rattle.std.proofs.Common.{◌≡◌, ℕ, ◌+◌, ◌*◌, ◌%◌, ◌^◌, ◌<◌, ◌≤◌, sym, refl, ◌∙◌, arith}
+use Rattle.std.proofs.Common.{ℕ, ◌+◌, ◌*◌, ◌%◌, ◌^◌, ◌<◌, sym, ◌∙◌, arith}
 use Rattle.placement.specs.Jump.{leap}
 use Rattle.placement.specs.Walking.{wrapped, turn_up, turn_on, turn_off}
 use Rattle.placement.proofs.jump.walk_end.Goals as goal

@@ -1,4 +1,4 @@
-use Rattle.std.proofs.Common.{◌≡◌, ℕ, ◌-◌, ◌≤◌, eqb, refl, ap, ◌∙◌, arith}
+use Rattle.std.proofs.Common.{ℕ, ◌-◌, ◌≤◌, eqb, ap, ◌∙◌, arith}
 use Rattle.placement.specs.Packing.{unpack}
 use Rattle.placement.specs.Jump.{jump}
 use Rattle.placement.specs.Rosters.{members}

@@ -1,11 +1,10 @@
-use Rattle.std.proofs.Common.{◌≡◌, ℕ, ◌-◌, ◌<◌, ◌≤◌, min, max, List, length, take, sym, refl, ap, ◌∙◌, arith, length-take}
+use Rattle.std.proofs.Common.{◌≡◌, ℕ, ◌≤◌, min, take, sym, refl, ap, ◌∙◌, arith, length-take}
 use Rattle.order.specs.Sorting.{sort}
 use Rattle.order.proofs.Sorts.{length_sort}
-use Rattle.placement.specs.declared.rendezvous.Candidate.{Candidate}
 use Rattle.placement.specs.declared.roster.Roster.{Roster}
 use Rattle.placement.specs.Laws.{nearest}
 use Rattle.placement.specs.Rosters.{members}
-use Rattle.placement.specs.Rendezvous.{rendezvous, ahead, Heaviest}
+use Rattle.placement.specs.Rendezvous.{rendezvous, ahead}
 use Rattle.placement.specs.Firsts.{firsts_rostered, ahead_ordered, take_whole, heaviest_listed}
 use Rattle.placement.proofs.Holding.{kept, members_rostered, length_members}
 use Rattle.placement.proofs.rendezvous.RendezvousPlacement.list.Goals as goal

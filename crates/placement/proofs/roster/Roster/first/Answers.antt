@@ -1,4 +1,4 @@
-use Rattle.std.proofs.Common.{◌≡◌, ℕ, ◌≤◌, Ok, sym, refl, ap, ◌∙◌, arith}
+use Rattle.std.proofs.Common.{◌≤◌, Ok, sym, refl, ap, ◌∙◌, arith}
 use Rattle.lists.specs.Numbers.{count_up}
 use Rattle.placement.specs.Rosters.{members}
 use Rattle.placement.proofs.Holding.{kept, count_up_word, count_up_rostered, first_accepts}

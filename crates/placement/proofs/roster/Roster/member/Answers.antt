@@ -1,4 +1,4 @@
-use Rattle.std.proofs.Common.{◌≡◌, ℕ, ◌<◌, ◌≤◌, length, Some, sym, ap, ◌∙◌, arith}
+use Rattle.std.proofs.Common.{Some, sym, ap, ◌∙◌, arith}
 use Rattle.lists.proofs.Places.{nth_inside, nth_past}
 use Rattle.placement.specs.Packing.{unpack}
 use Rattle.placement.specs.Rosters.{members}

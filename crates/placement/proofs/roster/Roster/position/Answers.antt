@@ -1,4 +1,4 @@
-use Rattle.std.proofs.Common.{◌≡◌, ◌<◌, arith}
+use Rattle.std.proofs.Common.{◌<◌, arith}
 use Rattle.lists.specs.Numbers.{place_of}
 use Rattle.lists.proofs.Places.{ended}
 use Rattle.placement.specs.Packing.{unpack}

@@ -1,5 +1,4 @@
-use Rattle.std.proofs.Common.{◌≡◌, ℕ, ◌+◌, ◌<◌, ◌≤◌, false, [], ◌∷◌, ◌++◌, length, Ok, sym, refl, ap, ◌∙◌, arith}
-use Rattle.lists.specs.Numbers.{member}
+use Rattle.std.proofs.Common.{◌+◌, ◌≤◌, [], ◌∷◌, ◌++◌, Ok, sym, refl, ap, ◌∙◌, arith}
 use Rattle.placement.specs.Rosters.{members}
 use Rattle.placement.proofs.Holding.{kept, members_rostered, length_members, push_roster, rostered_push_few, with_accepts}
 use Rattle.placement.proofs.roster.Roster.with.Goals as goal

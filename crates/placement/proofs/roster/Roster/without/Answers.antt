@@ -1,4 +1,4 @@
-use Rattle.std.proofs.Common.{◌≡◌, ℕ, ◌+◌, ◌-◌, ◌<◌, ◌≤◌, true, List, length, is_some, Some, Ok, sym, refl, ap, ◌∙◌, arith}
+use Rattle.std.proofs.Common.{◌≡◌, ℕ, ◌+◌, ◌-◌, ◌<◌, ◌≤◌, true, length, is_some, Some, Ok, sym, refl, ap, ◌∙◌, arith}
 use Rattle.lists.specs.Numbers as lists
 use Rattle.lists.specs.Numbers.{member, place_of}
 use Rattle.placement.specs.declared.roster.Roster.{Roster}
