@@ -1,5 +1,5 @@
 -- Calibrations as words.
-use Rattle.std.specs.Prelude.{ℕ, ◌+◌, ◌*◌, ◌/◌, ◌%◌, ◌^◌, Bool, cond, ◌&&◌, Some, None, Option, ◌==◌, nat_le, nat_lt}
+use Rattle.std.specs.Prelude.{ℕ, ◌+◌, ◌*◌, ◌/◌, ◌%◌, ◌^◌, Bool, cond, ◌&&◌, Some, None, ◌==◌, nat_le, nat_lt}
 use Rattle.store.specs.declared.value.Value.{Value}
 use Rattle.entry.specs.declared.calibration.Calibration.{Calibration}
 use Rattle.entry.specs.Kinds.{Kind}

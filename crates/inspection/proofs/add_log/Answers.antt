@@ -1,4 +1,4 @@
-use Rattle.std.proofs.Common.{◌≡◌, ℕ, List, ◌++◌, string_bytes, sym, ap, ◌∙◌, append_assoc}
+use Rattle.std.proofs.Common.{◌≡◌, ℕ, List, ◌++◌, string_bytes, ap, ◌∙◌, append_assoc}
 use Rattle.log_theory.specs.Tape.{tape, pairs_of}
 use Rattle.log_theory.specs.Moves.{superseded_count}
 use Rattle.inspection.specs.Text.{cap_line, pair_lines, superseded_line}

@@ -1,12 +1,10 @@
-use Rattle.std.proofs.Common.{◌≡◌, ℕ, ◌+◌, ◌<◌, true, false, List, ◌++◌, length, is_some, string_bytes, sym, ap, ◌∙◌, arith}
+use Rattle.std.proofs.Common.{◌+◌, ◌++◌, length, is_some, string_bytes, sym, ap, ◌∙◌, arith}
 use Rattle.std.proofs.lemmas.Bool.{false≢true}
-use Rattle.pairs.specs.Pairs.{Pair}
 use Rattle.pairs.proofs.Maps.{next_present}
-use Rattle.store.specs.declared.value.Value.{Value}
 use Rattle.log_theory.specs.Tape.{tape, pairs_of}
 use Rattle.log_theory.proofs.Calls.{standing_lawful}
 use Rattle.inspection.specs.Text.{pair_lines}
-use Rattle.inspection.proofs.Listing.{from_on, from_zero, from_next, from_none, from_past, wrote_one, wrote_all}
+use Rattle.inspection.proofs.Listing.{from_zero, from_next, from_none, from_past, wrote_one, wrote_all}
 use Rattle.inspection.proofs.add_pairs.Goals as goal
 
 pub loop-key-init : goal.loop-key-init
