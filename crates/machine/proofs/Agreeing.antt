@@ -1,5 +1,5 @@
 -- Every call, and every list of calls: the same answers, and the stores go on holding the map.
-use Rattle.std.proofs.Common.{◌≡◌, ℕ, List, [], ◌∷◌, Result, sym, refl, ap, ◌∙◌, subst}
+use Rattle.std.proofs.Common.{◌≡◌, List, [], ◌∷◌, Result, sym, refl, ap, subst}
 use Rattle.placement.specs.Laws.{Rule, Lawful}
 use Rattle.store.specs.Meaning.{Meaning}
 use Rattle.entry.specs.Calibrations.{calibration_kind}

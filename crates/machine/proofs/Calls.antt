@@ -1,5 +1,5 @@
 -- get, put, remove and the typed calls: over lent stores as on the one map.
-use Rattle.std.proofs.Common.{◌≡◌, ℕ, ◌<◌, ◌≤◌, Bool, true, false, cond, eqb, leb, ◌⊎◌, List, [], ◌∷◌, length, get_or, is_some, Some, None, Ok, Err, Option, Result, sym, refl, ap, ◌∙◌, subst, subst₂, inl, inr, arith}
+use Rattle.std.proofs.Common.{◌≡◌, ℕ, ◌<◌, Bool, true, false, cond, eqb, List, [], ◌∷◌, length, get_or, is_some, Some, None, Ok, Err, Option, Result, sym, refl, ap, ◌∙◌, subst, subst₂, inl, inr, arith}
 use Rattle.std.proofs.lemmas.Bool.Decides.{nat_tests}
 use Rattle.std.proofs.lemmas.Bool.{cases_Bool, cond-true, cond-false, eq-eqb}
 use Rattle.lists.specs.Numbers.{member}
@@ -9,7 +9,6 @@ use Rattle.pairs.proofs.Maps.{find_keep, keep_insert_yes, keep_insert_no, keep_e
 use Rattle.store.specs.Meaning.{Meaning}
 use Rattle.store.specs.Outcomes.{put_meaning, erase_meaning}
 use Rattle.store.specs.Stores.{nth}
-use Rattle.store.specs.declared.Put.{Put}
 use Rattle.store.specs.declared.value.Value.{Value}
 use Rattle.entry.specs.declared.fault.EntryFault.{EntryFault}
 use Rattle.entry.specs.Kinds.{Kind, encoded}
@@ -19,7 +18,7 @@ use Rattle.machine.specs.OneMap as one
 use Rattle.machine.specs.OneMap.{OneMap}
 use Rattle.machine.specs.Lent as lent
 use Rattle.machine.specs.Lent.{Lent, first_store, change_all, first_full, all_lent}
-use Rattle.machine.specs.Holds.{Holds, Sound}
+use Rattle.machine.specs.Holds.{Holds}
 use Rattle.machine.proofs.Rosters.{first_member, place_rostered}
 use Rattle.machine.proofs.Rows.{change_all_length, change_all_at, held_not_full, room_in_all}
 

@@ -1,23 +1,22 @@
 -- Join and leave over lent stores, and on the one map.
-use Rattle.std.proofs.Common.{◌≡◌, ℕ, ◌<◌, ◌≤◌, Bool, true, false, cond, not, ◌||◌, ltb, leb, ◌⊎◌, List, [], ◌∷◌, ◌++◌, length, Some, None, Option, sym, refl, ap, ◌∙◌, subst, inl, inr, zero-le, arith}
-use Rattle.std.proofs.lemmas.Bool.Decides.{nat_tests}
+use Rattle.std.proofs.Common.{◌≡◌, ℕ, ◌<◌, ◌≤◌, Bool, true, false, cond, not, ◌||◌, ltb, leb, List, [], ◌∷◌, ◌++◌, length, Some, None, Option, sym, refl, ap, ◌∙◌, subst, inl, inr, zero-le, arith}
 use Rattle.std.proofs.lemmas.Bool.{cases_Bool, cond-false, le-ltb, leb-false, or_parts, not-false, both_ways}
 use Rattle.lists.specs.Numbers.{member, without}
 use Rattle.placement.specs.Laws.{Rule, Rostered, Lawful}
 use Rattle.placement.proofs.Holding.{roster_more, push_roster, without_roster}
 use Rattle.placement.proofs.Moving.{lawful_moves_one}
-use Rattle.pairs.specs.Pairs.{Pair, keep}
+use Rattle.pairs.specs.Pairs.{Pair}
 use Rattle.pairs.proofs.Maps.{keep_nothing}
 use Rattle.store.specs.Meaning.{Meaning}
 use Rattle.store.specs.Stores.{nth}
 use Rattle.store.specs.declared.value.Value.{Value}
-use Rattle.machine.specs.Books.{Move, Book, list_under, placed, place, on, change_opened}
-use Rattle.machine.specs.Outcomes.{Outcome, refuse}
+use Rattle.machine.specs.Books.{Move, list_under, placed, place, on, change_opened}
+use Rattle.machine.specs.Outcomes.{Outcome}
 use Rattle.machine.specs.OneMap as one
 use Rattle.machine.specs.OneMap.{OneMap}
 use Rattle.machine.specs.Lent as lent
 use Rattle.machine.specs.Lent.{Lent}
-use Rattle.machine.specs.Holds.{Holds, Sound, SoundMove}
+use Rattle.machine.specs.Holds.{Holds, SoundMove}
 use Rattle.machine.proofs.Calls.{over, Follows, lent_all}
 use Rattle.machine.proofs.Steps.{rebooked}
 

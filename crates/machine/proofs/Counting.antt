@@ -1,27 +1,25 @@
 -- What every call of the machine does to the count of copies, and what a list of calls does.
-use Rattle.std.proofs.Common.{◌≡◌, ℕ, ◌+◌, ◌%◌, ◌^◌, ◌<◌, ◌≤◌, Bool, true, false, cond, not, ◌||◌, leb, ◌⊎◌, List, [], ◌∷◌, ◌++◌, length, get_or, Some, None, Ok, Err, Option, Result, sym, refl, ap, ◌∙◌, subst, inl, inr, add_assoc, arith}
+use Rattle.std.proofs.Common.{◌≡◌, ℕ, ◌+◌, ◌%◌, ◌^◌, ◌<◌, Bool, true, false, cond, not, ◌||◌, leb, List, [], ◌∷◌, ◌++◌, length, Some, None, Ok, Err, Option, Result, sym, refl, ap, ◌∙◌, arith}
 use Rattle.lists.specs.Numbers.{member, without}
 use Rattle.placement.specs.Laws.{Rule}
 use Rattle.pairs.specs.Pairs.{find, has, next_key}
-use Rattle.store.specs.declared.Put.{Put as Putting}
 use Rattle.store.specs.declared.value.Value.{Value}
 use Rattle.entry.specs.declared.fault.EntryFault.{EntryFault}
-use Rattle.entry.specs.Kinds.{Kind, encoded}
+use Rattle.entry.specs.Kinds.{encoded}
 use Rattle.entry.specs.Calibrations.{calibration_kind}
 use Rattle.entry.specs.Readings.{reading_kind}
 use Rattle.machine.specs.declared.call.Call.{Call}
 use Rattle.machine.specs.declared.call.Call.TheVariants.{Get, Put, Remove, GetCalibration, PutCalibration, GetReading, PutReading, Join, Leave, Step}
 use Rattle.machine.specs.declared.fault.Fault.{Fault}
 use Rattle.machine.specs.declared.fault.Fault.TheVariants.{WrongStore, MayNotLeave}
-use Rattle.machine.specs.declared.answer.Moved.{Moved}
 use Rattle.machine.specs.declared.answer.Answer.{Answer}
-use Rattle.machine.specs.declared.answer.Answer.TheVariants.{Found, FoundCalibration, FoundReading, Stored, Removed, Opened}
+use Rattle.machine.specs.declared.answer.Answer.TheVariants.{FoundCalibration, FoundReading, Stored, Opened}
 use Rattle.machine.specs.Faults.{full_store}
-use Rattle.machine.specs.Books.{Move, counted, place, gained, lost}
+use Rattle.machine.specs.Books.{Move, place, gained, lost}
 use Rattle.machine.specs.Outcomes.{Outcome, refuse, Reply, replied, answer_by, entry_in, step_answer}
 use Rattle.machine.specs.OneMap as one
 use Rattle.machine.specs.OneMap.{OneMap}
-use Rattle.machine.specs.Laws.{named, gained_in, gains}
+use Rattle.machine.specs.Laws.{gained_in, gains}
 
 -- a reply's count is the count before and what its answer names as gained, modulo 2^64
 abbrev Counts : ℕ → Reply OneMap → Type 0

@@ -1,25 +1,21 @@
 -- What the machine's map has at a key, by the calls and answers alone.
-use Rattle.std.proofs.Common.{◌≡◌, ℕ, zero, suc, ◌+◌, ◌<◌, ◌≤◌, Bool, true, false, cond, not, ◌||◌, eqb, leb, ◌⊎◌, List, [], ◌∷◌, ◌++◌, length, get_or, take, Some, None, Ok, Err, Option, Result, sym, refl, ap, ◌∙◌, subst, inl, inr, arith}
-use Rattle.std.proofs.lemmas.Bool.{cases_Bool}
+use Rattle.std.proofs.Common.{◌≡◌, ℕ, zero, suc, ◌<◌, Bool, true, false, cond, not, ◌||◌, eqb, leb, List, [], ◌∷◌, ◌++◌, length, get_or, take, Some, None, Ok, Err, Option, sym, refl, ap, ◌∙◌, subst, arith}
 use Rattle.lists.specs.Numbers.{member, without}
 use Rattle.placement.specs.Laws.{Rule}
-use Rattle.pairs.specs.Pairs.{find, has, insert, erase, next_key, Ascending}
+use Rattle.pairs.specs.Pairs.{find, has, next_key, Ascending}
 use Rattle.pairs.proofs.Maps.{find_insert, find_erase, insert_ascends, erase_ascends}
 use Rattle.store.specs.declared.value.Value.{Value}
-use Rattle.entry.specs.declared.fault.EntryFault.{EntryFault}
 use Rattle.entry.specs.declared.fault.EntryFault.TheVariants.{BeyondLimit}
-use Rattle.entry.specs.Kinds.{Kind, encoded}
+use Rattle.entry.specs.Kinds.{Kind}
 use Rattle.entry.specs.Calibrations.{calibration_kind}
 use Rattle.entry.specs.Readings.{reading_kind}
 use Rattle.machine.specs.declared.call.Call.{Call}
 use Rattle.machine.specs.declared.call.Call.TheVariants.{Get, Put, Remove, GetCalibration, PutCalibration, GetReading, PutReading, Join, Leave, Step}
-use Rattle.machine.specs.declared.fault.Fault.{Fault}
-use Rattle.machine.specs.declared.fault.Fault.TheVariants.{WrongStore, MayNotLeave, Entry}
-use Rattle.machine.specs.declared.answer.Answer.{Answer}
-use Rattle.machine.specs.declared.answer.Answer.TheVariants.{Found, FoundCalibration, FoundReading, Stored, Removed, Opened, Done}
+use Rattle.machine.specs.declared.fault.Fault.TheVariants.{WrongStore, MayNotLeave}
+use Rattle.machine.specs.declared.answer.Answer.TheVariants.{Found, FoundCalibration, FoundReading, Stored, Done}
 use Rattle.machine.specs.Faults.{full_store}
 use Rattle.machine.specs.Books.{Move, place, gained, lost}
-use Rattle.machine.specs.Outcomes.{Outcome, refuse, Reply, replied, answer_by, entry_in, step_answer}
+use Rattle.machine.specs.Outcomes.{Outcome, refuse, Reply, replied}
 use Rattle.machine.specs.OneMap as one
 use Rattle.machine.specs.OneMap.{OneMap}
 use Rattle.machine.specs.Laws.{accepted, wrote, last_written, ReadsBack, typed_answer}

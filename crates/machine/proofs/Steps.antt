@@ -1,5 +1,5 @@
 -- A step over lent stores, and on the one map.
-use Rattle.std.proofs.Common.{◌≡◌, ℕ, ◌+◌, ◌<◌, ◌≤◌, Bool, true, false, cond, ltb, leb, ◌⊎◌, List, [], ◌∷◌, ◌++◌, length, get_or, is_some, Some, None, Option, sym, refl, ap, ◌∙◌, subst, subst₂, inl, inr, arith}
+use Rattle.std.proofs.Common.{◌≡◌, ℕ, ◌+◌, ◌<◌, ◌≤◌, Bool, true, false, cond, ltb, leb, ◌⊎◌, List, ◌++◌, length, get_or, is_some, Some, None, Option, sym, refl, ap, ◌∙◌, subst, subst₂, inl, inr, arith}
 use Rattle.std.proofs.lemmas.Bool.Decides.{nat_tests}
 use Rattle.std.proofs.lemmas.Bool.{cases_lt, cases_order, cases_Bool, cond-true, cond-false, lt-ltb, le-ltb}
 use Rattle.lists.specs.Numbers.{member}
@@ -13,8 +13,8 @@ use Rattle.store.specs.Outcomes.{put_meaning, erase_meaning}
 use Rattle.store.specs.Stores.{nth}
 use Rattle.store.specs.declared.value.Value.{Value}
 use Rattle.machine.specs.Faults.{full_store}
-use Rattle.machine.specs.Books.{Move, Book, first_outside, list_under, placed, place, on, gained, lost, key_moved, change_done}
-use Rattle.machine.specs.Outcomes.{Outcome, refuse}
+use Rattle.machine.specs.Books.{Move, Book, first_outside, list_under, placed, place, on, key_moved, change_done}
+use Rattle.machine.specs.Outcomes.{refuse}
 use Rattle.machine.specs.OneMap as one
 use Rattle.machine.specs.OneMap.{OneMap}
 use Rattle.machine.specs.Lent as lent

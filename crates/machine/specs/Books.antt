@@ -1,5 +1,5 @@
 -- What a service knows beside its pairs, and where it places a key.
-use Rattle.std.specs.Prelude.{ℕ, ◌+◌, ◌%◌, ◌^◌, Bool, cond, List, [], ◌∷◌, ◌++◌, Some, None, Option, nat_lt}
+use Rattle.std.specs.Prelude.{ℕ, ◌+◌, ◌%◌, ◌^◌, Bool, cond, List, [], ◌∷◌, Some, None, Option, nat_lt}
 use Rattle.lists.specs.Numbers.{member}
 use Rattle.placement.specs.Laws.{Rule}
 

@@ -1,10 +1,7 @@
 -- The refusals by number, and the two that a store's fault stands behind.
 use Rattle.std.specs.Prelude.{ℕ}
-use Rattle.entry.specs.declared.fault.EntryFault.{EntryFault}
-use Rattle.store.specs.declared.fault.StoreFault.{StoreFault}
 use Rattle.store.specs.declared.fault.StoreFault.TheVariants.{Full, HoldsPair}
 use Rattle.store.specs.Outcomes as stores
-use Rattle.machine.specs.declared.fault.StoreRefusal.{StoreRefusal}
 use Rattle.machine.specs.declared.fault.Fault.{Fault}
 use Rattle.machine.specs.declared.fault.Fault.TheVariants.{BeyondLimit, Store, WrongStore, InChange, NoChange, OtherStores, Lacks, MayNotLeave, Entry}
 

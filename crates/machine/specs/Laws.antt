@@ -7,7 +7,6 @@ use Rattle.entry.specs.Readings.{reading_kind}
 use Rattle.placement.specs.Laws.{Rule}
 use Rattle.machine.specs.declared.call.Call.{Call}
 use Rattle.machine.specs.declared.call.Call.TheVariants.{Get, Put, Remove, GetCalibration, PutCalibration, GetReading, PutReading, Join, Leave, Step}
-use Rattle.machine.specs.declared.answer.Moved.{Moved}
 use Rattle.machine.specs.declared.answer.Answer.{Answer}
 use Rattle.machine.specs.declared.answer.Answer.TheVariants as a
 use Rattle.machine.specs.Outcomes.{entry_in, answer_by}

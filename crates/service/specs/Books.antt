@@ -1,5 +1,5 @@
 -- The books of services, and what their calls hand back, in the machine's terms.
-use Rattle.std.specs.Prelude.{◌≡◌, ℕ, List, Some, None, Ok, Err, Option, Result}
+use Rattle.std.specs.Prelude.{ℕ, List, Some, None, Ok, Err, Option, Result}
 use Rattle.placement.specs.Rosters.{members}
 use Rattle.store.specs.Meaning.{Meaning}
 use Rattle.machine.specs.declared.answer.Moved.{Moved}

@@ -1,10 +1,10 @@
 -- The smallest key: the first of the sorted next keys, and the least over the stores.
-use Rattle.std.proofs.Common.{◌≡◌, ℕ, zero, suc, ◌+◌, ◌^◌, ◌<◌, ◌≤◌, min, Bool, true, false, cond, leb, ◌⊎◌, List, [], ◌∷◌, ◌++◌, length, get_or, take, is_some, Some, None, Option, sym, refl, ap, ◌∙◌, subst, inl, inr, append_assoc, arith}
+use Rattle.std.proofs.Common.{◌≡◌, ℕ, ◌^◌, ◌<◌, ◌≤◌, min, leb, List, [], ◌∷◌, ◌++◌, length, get_or, take, Some, None, Option, sym, refl, ap, ◌∙◌, inl, inr, append_assoc, arith}
 use Rattle.std.proofs.lemmas.Bool.{cases_Bool, leb-true, leb-false, cond-true, cond-false}
 use Rattle.order.specs.Sorting.{insert, sort}
-use Rattle.pairs.specs.Pairs.{find, has, next_key, nearer}
+use Rattle.pairs.specs.Pairs.{find, next_key, nearer}
 use Rattle.pairs.proofs.Maps.{nearer_assoc, next_none_is}
-use Rattle.store.specs.Meaning.{Meaning, Lawful}
+use Rattle.store.specs.Meaning.{Meaning}
 use Rattle.store.specs.Stores.{nth, LawfulRow}
 use Rattle.store.specs.declared.value.Value.{Value}
 use Rattle.machine.specs.Lent.{least}

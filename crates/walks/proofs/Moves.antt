@@ -1,8 +1,8 @@
 -- A key on the move: a full store takes nothing in; and the first store that holds a pair.
-use Rattle.std.proofs.Common.{◌≡◌, ℕ, suc, ◌+◌, ◌<◌, ◌≤◌, Bool, true, false, cond, eqb, ◌⊎◌, List, [], ◌∷◌, length, drop, set, Some, None, Ok, Err, Option, Result, sym, refl, ap, ◌∙◌, subst, inl, inr, add-one, arith, drop-cons}
+use Rattle.std.proofs.Common.{◌≡◌, ℕ, ◌+◌, ◌<◌, true, eqb, List, ◌∷◌, length, drop, set, Some, None, Err, Option, sym, refl, ap, ◌∙◌, inl, inr, add-one, arith, drop-cons}
 use lib.Seq.{set-get_or}
 use Rattle.std.proofs.lemmas.Bool.{cases_Bool, cond-true, cond-false, eq-eqb, ne_eqb}
-use Rattle.pairs.specs.Pairs.{Pair, insert}
+use Rattle.pairs.specs.Pairs.{insert}
 use Rattle.store.specs.Meaning.{Meaning, nothing}
 use Rattle.store.specs.Outcomes.{put_meaning}
 use Rattle.store.specs.Stores.{nth}
@@ -10,7 +10,7 @@ use Rattle.store.specs.declared.value.Value.{Value}
 use Rattle.machine.specs.declared.answer.Moved.{Moved}
 use Rattle.machine.specs.declared.fault.StoreRefusal.{StoreRefusal}
 use Rattle.machine.specs.Lent.{full_for, first_holding, put_some}
-use Rattle.walks.specs.Outcomes.{full_at, full_gained, carry_result, carry_result_in, carry_stores, carry_stores_in}
+use Rattle.walks.specs.Outcomes.{full_gained, carry_result, carry_result_in, carry_stores, carry_stores_in}
 
 full_same : (x : Meaning) (k : ℕ) (v : Value) → full_for x k ≡ true → put_meaning x k v ≡ x
 full_same x k v t = λ i. record { pairs = cond-true (full_for x k) x.pairs (insert x.pairs k v) t i; cap = x.cap }

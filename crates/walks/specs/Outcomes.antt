@@ -1,5 +1,5 @@
 -- What a put into every store of a list, and a step's move of a key, answer and leave.
-use Rattle.std.specs.Prelude.{ℕ, Bool, cond, List, Some, None, Ok, Err, Option, Result}
+use Rattle.std.specs.Prelude.{ℕ, cond, List, Some, None, Ok, Err, Option, Result}
 use Rattle.store.specs.Meaning.{Meaning}
 use Rattle.store.specs.Stores.{nth}
 use Rattle.store.specs.declared.Put.{Put}

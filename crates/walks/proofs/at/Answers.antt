@@ -1,4 +1,3 @@
-use Rattle.std.proofs.Common.{sym, ◌∙◌}
 use Rattle.placement.specs.Rosters.{members}
 use Rattle.walks.proofs.Lists.{at_some, at_none}
 use Rattle.walks.proofs.at.Goals as goal

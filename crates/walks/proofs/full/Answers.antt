@@ -1,4 +1,4 @@
-use Rattle.std.proofs.Common.{◌≡◌, ℕ, ◌+◌, ◌<◌, ◌≤◌, Bool, true, false, not, ◌⊎◌, List, [], ◌∷◌, length, drop, is_some, sym, refl, ap, ◌∙◌, subst, inl, inr, arith}
+use Rattle.std.proofs.Common.{◌≡◌, ℕ, ◌+◌, ◌<◌, ◌≤◌, true, false, not, ◌⊎◌, List, length, drop, is_some, sym, ap, ◌∙◌, inl, inr, arith}
 use Rattle.lists.proofs.Places.{onward, ended}
 use Rattle.pairs.specs.Pairs.{find}
 use Rattle.store.specs.Stores.{nth}

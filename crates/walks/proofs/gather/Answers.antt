@@ -1,7 +1,5 @@
-use Rattle.std.proofs.Common.{◌≡◌, ℕ, ◌+◌, ◌<◌, ◌≤◌, List, [], ◌∷◌, ◌++◌, length, take, drop, Option, sym, refl, ap, ◌∙◌, append-nil, arith}
+use Rattle.std.proofs.Common.{ℕ, ◌+◌, ◌<◌, ◌≤◌, List, ◌++◌, length, take, drop, Option, sym, ap, ◌∙◌, append-nil, arith}
 use Rattle.lists.proofs.Places.{onward, ended}
-use Rattle.pairs.specs.Pairs.{next_key}
-use Rattle.store.specs.Stores.{nth}
 use Rattle.placement.specs.Rosters.{members}
 use Rattle.walks.specs.Keys.{listed, next_keys}
 use Rattle.walks.proofs.Keys.{note_more}

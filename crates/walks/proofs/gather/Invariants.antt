@@ -1,4 +1,4 @@
-use Rattle.std.proofs.Common.{◌≡◌, ◌+◌, ◌≤◌, ◌++◌, length, take, drop}
+use Rattle.std.proofs.Common.{◌≡◌, ◌+◌, ◌≤◌, ◌++◌, take, drop}
 use Rattle.placement.specs.Rosters.{members}
 use Rattle.walks.specs.Keys.{next_keys}
 use Rattle.walks.proofs.gather.Given as goal

@@ -1,4 +1,4 @@
-use Rattle.std.proofs.Common.{◌≡◌, ℕ, List, [], ◌++◌, take, set, Option, sym, refl, ap, ◌∙◌, append-nil, add-one, arith, take-suc-set}
+use Rattle.std.proofs.Common.{ℕ, ◌++◌, take, set, Option, sym, ap, ◌∙◌, append-nil, add-one, arith, take-suc-set}
 use Rattle.walks.specs.Keys.{listed}
 use Rattle.walks.proofs.noted.Goals as goal
 

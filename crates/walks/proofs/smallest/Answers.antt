@@ -1,5 +1,4 @@
-use Rattle.std.proofs.Common.{◌≡◌, ℕ, ◌<◌, List, [], ◌∷◌, length, None, sym, refl, ap, ◌∙◌, arith}
-use Rattle.walks.specs.Keys.{smallest_of}
+use Rattle.std.proofs.Common.{◌<◌, length, arith}
 use Rattle.walks.proofs.Keys.{front_is_smallest, none_smallest}
 use Rattle.walks.proofs.smallest.Goals as goal
 
