@@ -1,5 +1,5 @@
 -- A whole run: from an opening over lent stores to the machine's answers, stores and end.
-use Rattle.std.proofs.Common.{◌≡◌, ℕ, ◌%◌, ◌^◌, Bool, false, List, length, Ok, Err, vec_items, sym, refl, ap, ◌∙◌, subst}
+use Rattle.std.proofs.Common.{◌≡◌, ℕ, ◌%◌, ◌^◌, List, length, Ok, Err, vec_items, sym, refl, ap, ◌∙◌, subst}
 use Rattle.std.proofs.lemmas.Bool.{cond-false}
 use Rattle.placement.specs.Laws.{Rule, Lawful}
 use Rattle.store.specs.Meaning.{Meaning}
@@ -27,7 +27,7 @@ use Rattle.cluster.specs.declared.runs.Ending.{Ending}
 use Rattle.cluster.specs.declared.runs.Ending.TheVariants.{LeaveOpen, Close}
 use Rattle.cluster.specs.declared.runs.End.{End}
 use Rattle.cluster.specs.declared.runs.Ran.{Ran}
-use Rattle.cluster.specs.Runs.{start, Placed, ended, EndsAs, copied_in, placement_in, RanAs}
+use Rattle.cluster.specs.Runs.{start, ended, EndsAs, copied_in, placement_in, RanAs}
 
 module _ {P : Type 0} where
   -- what a service has is what it says when it is closed

@@ -5,7 +5,6 @@ use Rattle.pairs.specs.Pairs.{keep}
 use Rattle.store.specs.Meaning.{Meaning}
 use Rattle.store.specs.Stores.{nth}
 use Rattle.machine.specs.declared.call.Call.{Call}
-use Rattle.machine.specs.declared.answer.Answer.{Answer}
 use Rattle.machine.specs.declared.fault.Fault.TheVariants.{BeyondLimit}
 use Rattle.machine.specs.Books.{Book, on}
 use Rattle.machine.specs.OneMap as one

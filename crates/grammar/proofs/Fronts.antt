@@ -1,13 +1,12 @@
 -- How far a text goes with the words of a list.
-use Rattle.std.proofs.Common.{◌≡◌, ℕ, zero, suc, ◌+◌, ◌<◌, ◌≤◌, max, Bool, true, false, cond, ◌&&◌, eqb, ltb, ◌⊎◌, List, [], ◌∷◌, ◌++◌, length, get_or, take, drop, Ok, Err, IsUtf8, Result, sym, refl, ap, ◌∙◌, subst, inl, inr, ⊎_elim, arith, Bor, MatchResult}
-use Rattle.std.proofs.lemmas.Bool.{cases_eq, cases_lt, cond-true, cond-false, eq-eqb, ne_eqb, eqb-true, ltb-true, and_parts}
+use Rattle.std.proofs.Common.{◌≡◌, ℕ, zero, suc, ◌+◌, ◌<◌, ◌≤◌, max, Bool, true, ◌&&◌, eqb, ltb, List, [], ◌∷◌, ◌++◌, length, get_or, take, drop, Ok, Err, IsUtf8, Result, sym, refl, ap, ◌∙◌, subst, inl, inr, ⊎_elim, arith, Bor, MatchResult}
+use Rattle.std.proofs.lemmas.Bool.{cases_eq, cases_lt, cond-true, cond-false, eq-eqb, ne_eqb, ltb-true, and_parts}
 use Rattle.std.proofs.lemmas.Str.{IsUtf8-from_ascii}
 use Rattle.std.proofs.lemmas.List.{drop_more, drop_all}
 use Rattle.std.specs.List.{AllByRecursion as All}
 use Rattle.std.specs.Result.{result_unwrap_or}
 use Rattle.grammar.specs.Languages.{Begins, Stops, OneOf}
 use Rattle.grammar.specs.Slots.{common, furthest}
-use Rattle.grammar.proofs.Numbers.{whole_begins}
 
 pub common_same : (x y : ℕ) (xs ys : List ℕ) → x ≡ y → common (x ∷ xs) (y ∷ ys) ≡ suc (common xs ys)
 common_same x y xs ys e = cond-true (eqb x y) _ _ (eq-eqb x y e)

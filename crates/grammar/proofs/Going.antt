@@ -1,8 +1,5 @@
 -- Going from word to word of a line, and how a reader's finds make up the whole line.
-use Rattle.std.proofs.Common.{◌≡◌, ℕ, ◌^◌, ◌<◌, List, [], ◌∷◌, ◌++◌, drop, IsErrAnd, Ok, Err, codes, decimal, Result, sym, refl, ap, ◌∙◌, subst, append-nil, MatchResult}
-use Rattle.entry.specs.declared.calibration.Calibration.{Calibration}
-use Rattle.entry.specs.declared.reading.Reading.{Reading}
-use Rattle.entry.specs.declared.reading.State.{State}
+use Rattle.std.proofs.Common.{◌≡◌, ℕ, List, [], ◌∷◌, ◌++◌, drop, IsErrAnd, Ok, Err, Result, sym, refl, ap, ◌∙◌, subst, MatchResult}
 use Rattle.grammar.specs.declared.command.Command.{Command}
 use Rattle.grammar.specs.declared.command.Verb.{Verb}
 use Rattle.grammar.specs.declared.opening.Opening.{Opening}
@@ -14,8 +11,8 @@ use Rattle.grammar.specs.declared.fault.LineFault.{LineFault}
 use Rattle.grammar.specs.declared.fault.LineFault.TheVariants.{Word}
 use Rattle.grammar.specs.Faults.{place_of}
 use Rattle.grammar.specs.Spelling.{verb_text, keyword_text}
-use Rattle.grammar.specs.Slots.{Slot, In, verb, keyword, Opens, Reads, Misfit}
-use Rattle.grammar.specs.Lines.{spaced, line_text, Fits, Gives, Legal, OpeningFits, opening_text, GivesOpening, LegalOpening, Refuses}
+use Rattle.grammar.specs.Slots.{Slot, In, verb, keyword, Misfit}
+use Rattle.grammar.specs.Lines.{spaced, line_text, Fits, Gives, Legal, GivesOpening, LegalOpening, Refuses}
 use Rattle.grammar.specs.Reading.{First, Next, Last, FirstFault, NextFault, RestFault, Completes, form, CompletesOpening, opening_form}
 use Rattle.grammar.proofs.Seams.{tail_more}
 use Rattle.grammar.proofs.Wholes.{command_tail, command_word, opening_tail, opening_word}

@@ -18,9 +18,9 @@ use Rattle.grammar.specs.declared.opening.Kind.TheVariants.{Table, Log, Mixed}
 use Rattle.grammar.specs.declared.opening.Opening.{Opening}
 use Rattle.grammar.specs.declared.opening.Keyword.TheVariants.{Cluster}
 use Rattle.grammar.specs.Languages.{Begins, Stops, Rejects}
-use Rattle.grammar.specs.Spelling.{state_text, policy_text, kind_text, verb_text}
-use Rattle.grammar.specs.Slots.{Slot, number, state, policy, kind, verb, keyword, Edge, Spaceless}
-use Rattle.grammar.specs.Lines.{spaced, line_text, Fits, Gives, opening_text, OpeningFits, GivesOpening}
+use Rattle.grammar.specs.Spelling.{state_text, policy_text, kind_text}
+use Rattle.grammar.specs.Slots.{number, state, policy, kind, verb, keyword, Edge, Spaceless}
+use Rattle.grammar.specs.Lines.{spaced, line_text, Fits, Gives, OpeningFits, GivesOpening}
 use Rattle.grammar.proofs.Numbers.{own, begins_front}
 use Rattle.grammar.proofs.Seams.{split_same, slot_spaceless}
 use Rattle.grammar.proofs.Wholes.{state_in, policy_in, kind_in, verb_in, keyword_in}

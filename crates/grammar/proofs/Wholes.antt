@@ -1,5 +1,5 @@
 -- A line's first word and its whole: where a line stops giving a command, or an opening.
-use Rattle.std.proofs.Common.{◌≡◌, ℕ, ◌+◌, ◌^◌, ◌<◌, cond, ◌⊎◌, List, [], ◌∷◌, ◌++◌, length, drop, codes, decimal, sym, refl, ap, ◌∙◌, subst, inl, inr, arith}
+use Rattle.std.proofs.Common.{◌≡◌, ℕ, ◌+◌, ◌^◌, ◌<◌, cond, List, [], ◌∷◌, ◌++◌, length, drop, codes, decimal, sym, refl, ap, ◌∙◌, subst, inl, inr, arith}
 use Rattle.std.specs.Str.{bytes_eq}
 use Rattle.entry.specs.declared.reading.State.{State}
 use Rattle.entry.specs.declared.reading.State.TheVariants.{Valid, Saturated, Missing}
@@ -13,10 +13,10 @@ use Rattle.grammar.specs.declared.opening.Kind.{Kind}
 use Rattle.grammar.specs.declared.opening.Kind.TheVariants.{Table, Log, Mixed}
 use Rattle.grammar.specs.declared.opening.Keyword.{Keyword}
 use Rattle.grammar.specs.declared.opening.Keyword.TheVariants.{Cluster}
-use Rattle.grammar.specs.Languages.{Stops, Rejects, OneOf}
-use Rattle.grammar.specs.Spelling.{WritesNumber, state_text, policy_text, kind_text, verb_text, keyword_text, states, policies, kinds, verbs}
-use Rattle.grammar.specs.Slots.{Slot, number, state, policy, kind, verb, keyword, In, Edge, Spaceless, up_to, Tail, Opens, Misfit, Strays}
-use Rattle.grammar.specs.Lines.{spaced, line_text, Fits, Gives, Legal, GivesOpening, LegalOpening}
+use Rattle.grammar.specs.Languages.{Stops, Rejects}
+use Rattle.grammar.specs.Spelling.{state_text, policy_text, kind_text, verb_text, keyword_text}
+use Rattle.grammar.specs.Slots.{Slot, number, state, policy, kind, verb, keyword, In, Tail, Opens, Misfit, Strays}
+use Rattle.grammar.specs.Lines.{spaced, line_text, Fits, Legal, LegalOpening}
 use Rattle.grammar.specs.Reading.{form, opening_form}
 use Rattle.grammar.proofs.Seams.{After, after_more, after_fault, stops_same, slot_spaceless, tail_edge, tail_live}
 

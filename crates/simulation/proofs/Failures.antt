@@ -1,14 +1,14 @@
 -- A script that does not run prints its refusal.
-use Rattle.std.proofs.Common.{◌≡◌, ℕ, Bool, true, false, List, IfOk, Some, None, Ok, Err, string_bytes, MatchBool, Result, String, sym, subst, arith, MatchResult}
+use Rattle.std.proofs.Common.{◌≡◌, ℕ, Bool, true, false, List, IfOk, Some, Ok, Err, string_bytes, MatchBool, Result, String, sym, subst, arith, MatchResult}
 use Rattle.std.specs.declared.alloc.Global.{Global}
 use Rattle.placement.specs.Policies.{rule_of}
 use Rattle.grammar.specs.Lines.{lines_of}
 use Rattle.transcript.specs.declared.fault.RunFault.{RunFault}
 use Rattle.transcript.specs.declared.fault.RunFault.TheVariants.{TooLong, Line, Service, Memory}
 use Rattle.transcript.specs.Texts.{row_text}
-use Rattle.transcript.specs.Sessions.{Runs, RefusedWith, later_lines, Session, Transcript}
+use Rattle.transcript.specs.Sessions.{Runs, RefusedWith, later_lines, Transcript}
 use Rattle.simulation.specs.declared.OutOfMemory.{OutOfMemory}
-use Rattle.simulation.specs.Ends.{Fails, refused_line, Prints}
+use Rattle.simulation.specs.Ends.{Fails, Prints}
 
 short : (b : Bool) (P Q : Type 0) → b ≡ false → Q → MatchBool b P Q
 short b P Q e q = subst (λ x. MatchBool x P Q) (sym e) q

@@ -1,13 +1,11 @@
 -- The machine of an opening, and a run over the first of sixteen empty stores.
-use Rattle.std.proofs.Common.{◌≡◌, ℕ, zero, suc, ◌+◌, ◌<◌, ◌≤◌, Bool, true, false, cond, ◌&&◌, leb, List, [], ◌∷◌, ◌++◌, map, length, get_or, take, replicate, Ok, Err, vec_items, Result, sym, refl, ap, ◌∙◌, subst, ⊎_elim, arith, MatchResult}
+use Rattle.std.proofs.Common.{◌≡◌, ℕ, zero, suc, ◌<◌, ◌≤◌, ◌&&◌, leb, List, ◌∷◌, ◌++◌, length, take, replicate, Ok, Err, vec_items, sym, refl, ap, ◌∙◌, subst, ⊎_elim, arith, MatchResult}
 use lib.ListN.{length-replicate}
 use Rattle.std.proofs.lemmas.Bool.{cond-true, cond-false, cases_lt}
 use Rattle.std.proofs.lemmas.Bool.Decides.{nat_tests}
 use Rattle.placement.specs.declared.policies.Policy.{Policy}
 use Rattle.placement.specs.Policies.{rule_of}
-use Rattle.store.specs.Meaning.{Meaning, nothing}
-use Rattle.store.specs.Stores.{nth}
-use Rattle.machine.specs.declared.fault.Fault.{Fault}
+use Rattle.store.specs.Meaning.{Meaning}
 use Rattle.machine.specs.declared.fault.Fault.TheVariants.{BeyondLimit}
 use Rattle.machine.specs.Books.{Book}
 use Rattle.machine.specs.OneMap as one

@@ -1,5 +1,5 @@
 -- Stores as they are made for a run: empty, of one cap.
-use Rattle.std.specs.Prelude.{◌≡◌, ℕ, ◌+◌, ◌*◌, List, []}
+use Rattle.std.specs.Prelude.{◌≡◌, ℕ, ◌+◌, ◌*◌, []}
 use Rattle.store.specs.Meaning.{Meaning}
 use Rattle.cells.specs.Held as cells
 use Rattle.table.specs.declared.Table.{Table}

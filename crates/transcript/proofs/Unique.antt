@@ -5,18 +5,16 @@ use Rattle.placement.specs.Policies.{rule_of}
 use Rattle.machine.specs.OneMap as one
 use Rattle.machine.specs.OneMap.{OneMap}
 use Rattle.machine.specs.declared.fault.Fault.{Fault}
-use Rattle.grammar.specs.declared.command.Command.{Command}
 use Rattle.grammar.specs.declared.opening.Opening.{Opening}
 use Rattle.grammar.specs.declared.fault.LineFault.{LineFault}
 use Rattle.grammar.specs.Faults.{place_of}
-use Rattle.grammar.specs.Languages.{Rejects}
-use Rattle.grammar.specs.Lines.{Gives, Legal, GivesOpening, LegalOpening, Refuses, call_of, lines_of}
+use Rattle.grammar.specs.Lines.{Legal, GivesOpening, LegalOpening, Refuses, call_of, lines_of}
 use Rattle.grammar.proofs.Once.{gives_once, opens_once, rejects_once}
 use Rattle.transcript.specs.declared.fault.RunFault.TheVariants.{TooLong, Line, Service}
 use Rattle.transcript.specs.declared.report.Report.TheVariants.{Ready}
 use Rattle.transcript.specs.Reports.{report_of, served}
-use Rattle.transcript.specs.Texts.{row_text, fault_text}
-use Rattle.transcript.specs.Sessions.{Row, RowsRead, session_text, machine_of, Runs, RefusedWith, OpensAs, first_line, later_lines, Session, longest_script, Transcript, OneTranscript}
+use Rattle.transcript.specs.Texts.{row_text}
+use Rattle.transcript.specs.Sessions.{Row, RowsRead, session_text, machine_of, Runs, RefusedWith, OpensAs, first_line, later_lines, Session, longest_script, OneTranscript}
 
 -- two refusals of one line have one column, and are printed alike
 refusals_alike : (L : List ℕ → Type 0) (n : ℕ) (l : List ℕ) (f g : LineFault) → Refuses L n l f → Refuses L n l g → (m : ℕ) → row_text m (Err (Line f)) ≡ row_text m (Err (Line g))

@@ -3,10 +3,8 @@ use Rattle.std.specs.Prelude.{◌≡◌, ℕ, ◌+◌, cond, ◌&&◌, List, [],
 use Rattle.lists.specs.Numbers.{count_up}
 use Rattle.placement.specs.Laws.{Rule}
 use Rattle.placement.specs.Policies.{rule_of}
-use Rattle.machine.specs.declared.answer.Answer.{Answer}
 use Rattle.machine.specs.declared.fault.Fault.{Fault}
 use Rattle.machine.specs.declared.fault.Fault.TheVariants.{BeyondLimit}
-use Rattle.machine.specs.Outcomes.{Reply}
 use Rattle.machine.specs.OneMap as one
 use Rattle.machine.specs.OneMap.{OneMap}
 use Rattle.machine.specs.Statements.{close}
@@ -14,7 +12,6 @@ use Rattle.grammar.specs.declared.command.Command.{Command}
 use Rattle.grammar.specs.declared.opening.Opening.{Opening}
 use Rattle.grammar.specs.declared.fault.LineFault.{LineFault}
 use Rattle.grammar.specs.Lines.{Gives, Legal, GivesOpening, LegalOpening, Refuses, call_of, lines_of}
-use Rattle.transcript.specs.declared.report.Report.{Report}
 use Rattle.transcript.specs.declared.report.Report.TheVariants.{Ready}
 use Rattle.transcript.specs.declared.fault.RunFault.{RunFault}
 use Rattle.transcript.specs.declared.fault.RunFault.TheVariants.{TooLong, Line, Service}

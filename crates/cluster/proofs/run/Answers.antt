@@ -1,4 +1,4 @@
-use Rattle.std.proofs.Common.{◌≡◌, vec_items, sym, refl, ap, ◌∙◌, subst}
+use Rattle.std.proofs.Common.{sym, refl, ap, ◌∙◌}
 use Rattle.machine.specs.Lent as lent
 use Rattle.machine.proofs.Openings.{opening_holds}
 use Rattle.serving.specs.Calls.{over}

@@ -1,4 +1,4 @@
-use Rattle.std.proofs.Common.{ℕ, List, sym, ◌∙◌, subst}
+use Rattle.std.proofs.Common.{◌∙◌}
 use Rattle.std.proofs.lemmas.Result.{MatchResult-weaker}
 use Rattle.grammar.proofs.Going.{refuses_first, refuses_rest, gives}
 use Rattle.script.proofs.commands.read_command.Goals as goal

@@ -1,4 +1,4 @@
-use Rattle.std.proofs.Common.{◌≡◌, ◌+◌, length, take, sym, ap, ◌∙◌, arith}
+use Rattle.std.proofs.Common.{◌≡◌, length, take, ap, ◌∙◌, arith}
 use Rattle.grammar.specs.Slots.{up_to}
 use Rattle.grammar.proofs.Firsts.{up_to_cut, up_to_more, up_to_stop, up_to_all}
 use Rattle.script.proofs.reader.word_length.Goals as goal

@@ -1,4 +1,4 @@
-use Rattle.std.proofs.Common.{sym, subst, arith}
+use Rattle.std.proofs.Common.{sym, subst}
 use Rattle.simulation.specs.Ends.{Unopened}
 use Rattle.simulation.proofs.Machines.{stores_refused}
 use Rattle.simulation.proofs.building.run_rows.Goals as goal

@@ -1,5 +1,4 @@
-use Rattle.std.proofs.Common.{◌≡◌, ◌+◌, List, [], ◌∷◌, ◌++◌, drop, vec_items, sym, ap, ◌∙◌}
-use Rattle.machine.specs.declared.call.Call.{Call}
+use Rattle.std.proofs.Common.{◌≡◌, ◌+◌, [], ◌∷◌, ◌++◌, drop, vec_items, sym, ap, ◌∙◌}
 use Rattle.grammar.specs.Lines.{call_of}
 use Rattle.transcript.specs.Woven.{calls_of}
 use Rattle.transcript.proofs.Weaves.{wrote, nothing_left}

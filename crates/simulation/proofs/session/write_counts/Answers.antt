@@ -1,4 +1,4 @@
-use Rattle.std.proofs.Common.{◌≡◌, ◌<◌, ◌≤◌, ◌++◌, length, string_bytes, sym, ap, ◌∙◌, subst, arith}
+use Rattle.std.proofs.Common.{◌<◌, ◌≤◌, ◌++◌, length, string_bytes, ap, ◌∙◌, arith}
 use Rattle.transcript.specs.Texts.{count_text}
 use Rattle.transcript.proofs.Weaves.{wrote, nothing_left}
 use Rattle.transcript.proofs.Ends.{counts_more, counts_all}

@@ -1,6 +1,5 @@
-use Rattle.std.proofs.Common.{◌∙◌, subst, arith}
+use Rattle.std.proofs.Common.{◌∙◌, arith}
 use Rattle.std.proofs.lemmas.Result.{MatchResult-weaker}
-use Rattle.grammar.specs.Slots.{In, Strays}
 use Rattle.grammar.proofs.Firsts.{opens_word}
 use Rattle.script.proofs.reader.Reader.first.Goals as goal
 
