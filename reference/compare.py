@@ -4,7 +4,7 @@
     reference/compare.py COUNT [SEED] [--program PATH]
 
 compares the scripts 0 to COUNT - 1 of the seed (1 where none is given), as reference/generate.py makes them. The
-program is target/bin/simulate of this repository, or what --program or the environment variable SIMULATE names.
+program is crates/simulate/out/simulate of this repository, or what --program or the environment variable SIMULATE names.
 Each of the first differences is printed, with a file that holds the script; then `N scripts, D differences`. The
 status is 0 if there is none, 1 if there are some, 2 if the program cannot be run at all.
 """
@@ -19,7 +19,7 @@ sys.dont_write_bytecode = True
 import generate
 import simulate
 
-BUILT = os.path.join(os.path.dirname(os.path.abspath(__file__)), "..", "target", "bin", "simulate")
+BUILT = os.path.join(os.path.dirname(os.path.abspath(__file__)), "..", "crates", "simulate", "out", "simulate")
 SHOWN = 5  # differences that are printed in full
 PATIENCE = 20  # seconds for one script
 

@@ -1,6 +1,6 @@
 -- Worked figures: what the definitions give, each beside what it should be.
 use Rattle.std.specs.Prelude.{◌≡◌, ℕ, List, [], ◌∷◌, Ok, Err, Result}
-use Rattle.std.specs.List.{AllByRecursion as All}
+use Rattle.std.specs.List.{AllByRecursion}
 use Rattle.store.specs.declared.value.Value.{Value}
 use Rattle.entry.specs.declared.fault.EntryFault.{EntryFault}
 use Rattle.entry.specs.declared.fault.EntryFault.TheVariants.{BeyondLimit}
@@ -40,4 +40,4 @@ figures =
     ∷ []
 
 abbrev pub FiguresHold : Type 0
-FiguresHold = All (λ f. f.given ≡ f.due) figures
+FiguresHold = AllByRecursion (λ f. f.given ≡ f.due) figures

@@ -1,6 +1,6 @@
 -- Worked figures: what the definitions give, each beside what it should be.
 use Rattle.std.specs.Prelude.{◌≡◌, ℕ, ◌-◌, ◌^◌, List, ◌∷◌, map}
-use Rattle.std.specs.List.{AllByRecursion as All}
+use Rattle.std.specs.List.{AllByRecursion}
 use Rattle.lists.specs.Numbers.{count_up}
 use Rattle.placement.specs.Rendezvous.{digest, weight_at}
 use Rattle.placement.specs.Jump.{position}
@@ -21,4 +21,4 @@ figures =
     ∷ map (λ (n : ℕ). fig (position 0 n) 0) (count_up 1 16)
 
 abbrev pub FiguresHold : Type 0
-FiguresHold = All (λ f. f.given ≡ f.due) figures
+FiguresHold = AllByRecursion (λ f. f.given ≡ f.due) figures

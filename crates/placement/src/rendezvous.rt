@@ -1,6 +1,6 @@
 // Rendezvous: the members of greatest weight for the key.
 ghost use Rattle.std.specs.Prelude.{◌≡◌, ℕ, ◌^◌, ◌<◌, ◌≤◌, min, List, map, length, take};
-ghost use Rattle.std.specs.List.{AllByRecursion as All};
+ghost use Rattle.std.specs.List.{AllByRecursion};
 ghost use Rattle.order.specs.Sorting.{sort};
 ghost use Rattle.placement.specs.Packing.{unpack};
 ghost use Rattle.placement.specs.Rosters.{members};
@@ -84,7 +84,7 @@ fn weigh(key: u64, roster: &Roster, room: &mut [Candidate])
 
 // The stores of the first candidates, packed.
 fn packed(room: &[Candidate], count: usize) -> u64
-    requires { (count ≤ length room.now) × ((count ≤ 16) × (All Numbered room.now)) }
+    requires { (count ≤ length room.now) × ((count ≤ 16) × (AllByRecursion Numbered room.now)) }
     ensures { unpack result count ≡ map store_of (take count room.now) }
 {
     let mut word = 0;
