@@ -13,6 +13,7 @@ pub struct Beside<S, B> {
     pub rest: B,
 }
 
+// Each call tests `s` anew: store and bank differ in type, so a helper would take a closure for each.
 impl<S: Store, B: Bank> Bank for Beside<S, B> {
     ghost stores = { λ b. record { pairs = S.Store.pairs b.store; cap = S.Store.cap b.store } ∷ B.Bank.stores b.rest };
 

@@ -7,12 +7,14 @@ use store::fault::StoreFault;
 use store::value::Value;
 
 // The first `few` stores of a longer bank, or all of a shorter one. The others are never touched.
+// `few` stands beside the bank: a bank is no slice, and the stores behind the first few come back as they were.
 #[derive(Drop)]
 pub struct First<B> {
     pub bank: B,
     pub few: usize,
 }
 
+// Each call tests `s` anew: a helper that took the call as a closure would be longer than the test.
 impl<B: Bank> Bank for First<B> {
     ghost stores = { λ b. take b.few (B.Bank.stores b.bank) };
 

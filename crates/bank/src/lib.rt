@@ -20,6 +20,7 @@ use store::value::Value;
 
 // The six calls of a store, with the store's number in front, and the number of stores. A call with
 // number `s` changes the meaning of store `s` alone.
+// The standing is a call's one premise, so each contract states it; `s`, `key` and `value` are what a call is about.
 pub trait Bank {
     // What each store means, by number.
     ghost stores: { Self → List Meaning };

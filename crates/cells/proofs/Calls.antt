@@ -1,20 +1,18 @@
 -- What the calls of a table do: a standing table stays standing, its pairs follow the store's
 -- meaning, and its cells are those of `put_cells` and `remove_cells`.
-use Rattle.std.proofs.Common.{◌≡◌, ℕ, ◌<◌, ◌≤◌, true, false, cond, not, ◌&&◌, eqb, leb, ◌⊎◌, List, length, set, is_some, Some, None, Ok, Err, Option, sym, refl, ap, ◌∙◌, subst, ⊎_elim, arith}
+use Rattle.std.proofs.Common.{◌≡◌, ℕ, ◌<◌, ◌≤◌, Bool, true, false, cond, not, ◌&&◌, eqb, leb, List, length, set, is_some, Some, None, Option, sym, refl, ap, ◌∙◌, subst, ⊎_elim, arith}
 use Rattle.std.proofs.lemmas.List.{get_or-set_same, get_or-set_other, length-set}
-use Rattle.std.proofs.lemmas.Bool.{ne_eqb, cases_eq, cases_Bool, cond-true, cond-false, cond_both, eqb-true, leb-false, le-leb, lt-leb}
+use Rattle.std.proofs.lemmas.Bool.{ne_eqb, cases_eq, cases_Bool, cond-true, cond-false, cond_both, true≢false, eqb-true, leb-false, le-leb, lt-leb, and_from}
 use Rattle.std.specs.Option.{option_or}
 use Rattle.pairs.specs.Pairs.{find, has, insert, erase}
 use Rattle.pairs.proofs.Maps.{find_insert, find_erase, insert_ascends, erase_ascends, ext, erase_absent, none_some, some_same}
-use Rattle.store.specs.declared.Put.TheVariants.{New, Replaced}
-use Rattle.store.specs.declared.fault.StoreFault.TheVariants.{Full}
 use Rattle.store.specs.declared.value.Value.{Value}
 use Rattle.store.specs.Meaning.{FitsWords, Lawful}
-use Rattle.store.specs.Outcomes.{refuses, put_answer, put_pairs}
+use Rattle.store.specs.Outcomes.{refuses, put_pairs}
 use Rattle.cells.specs.declared.Cell.{Cell}
 use Rattle.cells.specs.declared.Cell.TheVariants.{Empty, Live, Gone}
 use Rattle.cells.specs.Walk.{cell_at, walk_from, sought, vacancy}
-use Rattle.cells.specs.Held.{held, live_one, live_count, Worded, Limits, Standing, write_at, put_cells, remove_cells}
+use Rattle.cells.specs.Held.{value_of, held, live_one, live_count, Worded, Limits, Standing, write_at, put_place, put_cells, remove_cells}
 use Rattle.cells.proofs.Steps.{Found, Other, idle_other, live_in, seek_sound, seek_keep, seek_again, seek_new}
 use Rattle.cells.proofs.Holds.{Without, found_distinct, held_ascending, held_none, held_at, held_words, find_set, count_held, count_set, vacancy_none, free_sound}
 use Rattle.cells.proofs.Laws.{idle_one}
@@ -27,7 +25,7 @@ pub record Stand (cs : List Cell) (c : ℕ) : Type 0 where
   pub worded : Worded cs
   pub room : live_count cs ≤ c
 
-pub stand_in : (cs : List Cell) (m : ℕ) → Standing cs m → Stand cs m
+stand_in : (cs : List Cell) (m : ℕ) → Standing cs m → Stand cs m
 stand_in cs m s = record { limits = s.limits; found = plain_found cs s.distinct s.unbroken; worded = s.worded; room = s.room }
 
 pub stand_out : (cs : List Cell) (m : ℕ) → Stand cs m → Standing cs m
@@ -60,12 +58,12 @@ seen cs h k p v e = held_at cs (found_distinct cs h) p k v e
 unseen : (cs : List Cell) → Found cs → (k : ℕ) → sought cs k ≡ None → find (held cs) k ≡ None
 unseen cs h k e = held_none cs k (λ p v d. none_some (sought cs k) p e (h p k v d))
 
-pub has_seen : (cs : List Cell) → Found cs → (k p : ℕ) → sought cs k ≡ Some p → has (held cs) k ≡ true
+has_seen : (cs : List Cell) → Found cs → (k p : ℕ) → sought cs k ≡ Some p → has (held cs) k ≡ true
 has_seen cs h k p e =
     let s = seek_sound (length cs) cs k (length cs) 0 p e in
     ap is_some (seen cs h k p s.0 s.1)
 
-pub has_unseen : (cs : List Cell) → Found cs → (k : ℕ) → sought cs k ≡ None → has (held cs) k ≡ false
+has_unseen : (cs : List Cell) → Found cs → (k : ℕ) → sought cs k ≡ None → has (held cs) k ≡ false
 has_unseen cs h k e = ap is_some (unseen cs h k e)
 
 -- a cell written live
@@ -133,7 +131,7 @@ put_fresh cs m k p v fit s e b g =
       held_live cs p k v f w.0 (λ j d. idle_other j (cell_at cs p) w.1),
     )
 
-pub room_left : (cs : List Cell) (m k : ℕ) → Stand cs m → live_count cs < m → sought cs k ≡ None → vacancy cs k ≡ None → ⊥
+room_left : (cs : List Cell) (m k : ℕ) → Stand cs m → live_count cs < m → sought cs k ≡ None → vacancy cs k ≡ None → ⊥
 room_left cs m k s b g e = let n = vacancy_none cs k g e in let t = s.limits in omega arith
 
 -- the refusal
@@ -147,8 +145,8 @@ refuses_unseen cs m k s e =
 
 -- put
 
-pub put_stands : (cs : List Cell) (m k : ℕ) (v : Value) → FitsWords k v → Stand cs m → Stand (put_cells cs m k v) m × (held (put_cells cs m k v) ≡ put_pairs (held cs) m k v)
-put_stands cs m k v fit s = by (sought cs k) refl where
+put_stand : (cs : List Cell) (m k : ℕ) (v : Value) → FitsWords k v → Stand cs m → Stand (put_cells cs m k v) m × (held (put_cells cs m k v) ≡ put_pairs (held cs) m k v)
+put_stand cs m k v fit s = by (sought cs k) refl where
   fresh : (o : Option ℕ) → sought cs k ≡ None → live_count cs < m → vacancy cs k ≡ o → Stand (write_at o cs (Live k v)) m × (held (write_at o cs (Live k v)) ≡ insert (held cs) k v)
   fresh None e b g = absurd (room_left cs m k s b e g)
   fresh (Some p) e b g = put_fresh cs m k p v fit s e b g
@@ -163,20 +161,6 @@ put_stands cs m k v fit s = by (sought cs k) refl where
       (λ t. (s, sym (cond-true (refuses (held cs) m k) (held cs) (insert (held cs) k v) (q ∙ t))))
       (λ t. let r = fresh (vacancy cs k) e (leb-false m (live_count cs) t) refl in
       (r.0, r.1 ∙ sym (cond-false (refuses (held cs) m k) (held cs) (insert (held cs) k v) (q ∙ t))))
-
-pub answer_replaced : (cs : List Cell) (m k p : ℕ) → Stand cs m → sought cs k ≡ Some p → Ok Replaced ≡ put_answer (held cs) m k
-answer_replaced cs m k p s e =
-    sym (cond-false (refuses (held cs) m k) (Err Full) (Ok (cond (has (held cs) k) Replaced New)) (refuses_seen cs m k p s e)
-    ∙ ap Ok (cond-true (has (held cs) k) Replaced New (has_seen cs s.found k p e)))
-
-pub answer_full : (cs : List Cell) (m k : ℕ) → Stand cs m → sought cs k ≡ None → m ≤ live_count cs → Err Full ≡ put_answer (held cs) m k
-answer_full cs m k s e b =
-    sym (cond-true (refuses (held cs) m k) (Err Full) (Ok (cond (has (held cs) k) Replaced New)) (refuses_unseen cs m k s e ∙ le-leb m (live_count cs) b))
-
-pub answer_new : (cs : List Cell) (m k : ℕ) → Stand cs m → sought cs k ≡ None → live_count cs < m → Ok New ≡ put_answer (held cs) m k
-answer_new cs m k s e b =
-    sym (cond-false (refuses (held cs) m k) (Err Full) (Ok (cond (has (held cs) k) Replaced New)) (refuses_unseen cs m k s e ∙ lt-leb m (live_count cs) b)
-    ∙ ap Ok (cond-false (has (held cs) k) Replaced New (has_unseen cs s.found k e)))
 
 -- remove
 
@@ -208,8 +192,8 @@ held_gone cs k p h e =
     ∙ sym (cond-false (eqb k j) None (find (held cs) j) d) ∙ sym (find_erase (held cs) k j (held_ascending cs)))
     (cases_Bool (eqb k j)))
 
-pub remove_stands : (cs : List Cell) (m k : ℕ) → Stand cs m → Stand (remove_cells cs k) m × (held (remove_cells cs k) ≡ erase (held cs) k)
-remove_stands cs m k s = by (sought cs k) refl where
+remove_stand : (cs : List Cell) (m k : ℕ) → Stand cs m → Stand (remove_cells cs k) m × (held (remove_cells cs k) ≡ erase (held cs) k)
+remove_stand cs m k s = by (sought cs k) refl where
   by : (o : Option ℕ) → sought cs k ≡ o → Stand (write_at o cs Gone) m × (held (write_at o cs Gone) ≡ erase (held cs) k)
   by None e = (s, sym (erase_absent (held cs) k (unseen cs s.found k e)))
   by (Some p) e =
@@ -220,42 +204,70 @@ remove_stands cs m k s = by (sought cs k) refl where
         held_gone cs k p s.found e,
       )
 
--- get
+-- the same of a table that stands
 
-pub sought_lt : (cs : List Cell) (k p : ℕ) → Some p ≡ sought cs k → p < length cs
-sought_lt cs k p e = let w = seek_sound (length cs) cs k (length cs) 0 p (sym e) in live_in cs p k w.0 w.1
+module _ (cs : List Cell) (m k : ℕ) (standing : Standing cs m) where
+  pub put_stands : (v : Value) → FitsWords k v → Standing (put_cells cs m k v) m × (held (put_cells cs m k v) ≡ put_pairs (held cs) m k v)
+  put_stands v fit = let r = put_stand cs m k v fit (stand_in cs m standing) in (stand_out (put_cells cs m k v) m r.0, r.1)
 
-pub vacancy_lt : (cs : List Cell) (m k p : ℕ) → Stand cs m → Some p ≡ vacancy cs k → p < length cs
-vacancy_lt cs m k p s e = let z : 0 < length cs = let t = s.limits in omega arith in (free_sound (length cs) cs k z (length cs) 0 p (sym e)).0
+  pub remove_stands : Standing (remove_cells cs k) m × (held (remove_cells cs k) ≡ erase (held cs) k)
+  remove_stands = let r = remove_stand cs m k (stand_in cs m standing) in (stand_out (remove_cells cs k) m r.0, r.1)
 
-pub look_live : (cs : List Cell) (k p j : ℕ) (v : Value) → Found cs → Some p ≡ sought cs k → cell_at cs p ≡ Live j v → Some v ≡ find (held cs) k
-look_live cs k p j v h e d =
-    let w = seek_sound (length cs) cs k (length cs) 0 p (sym e) in
-    let a = w.1 in
-    let b : w.0 ≡ v = cc in
-    ap Some (sym b) ∙ sym (seen cs h k p w.0 w.1)
+  -- where the walk finds k, k's value is, and nowhere else
 
-pub look_none : (cs : List Cell) (k : ℕ) → Found cs → None ≡ sought cs k → None ≡ find (held cs) k
-look_none cs k h e = sym (unseen cs h k (sym e))
+  pub sought_lt : (p : ℕ) → sought cs k ≡ Some p → p < length cs
+  sought_lt p e = let w = seek_sound (length cs) cs k (length cs) 0 p e in live_in cs p k w.0 w.1
 
-pub sought_not_empty : (cs : List Cell) (k p : ℕ) → Some p ≡ sought cs k → (cell_at cs p ≡ Empty) ⊎ (cell_at cs p ≡ Gone) → ⊥
-sought_not_empty cs k p e d =
-    let w = seek_sound (length cs) cs k (length cs) 0 p (sym e) in
-    let a = w.1 in
-    ⊎_elim (λ (b : cell_at cs p ≡ Empty). let y : ◌≡◌ {A = ℕ} 0 1 = cc in omega arith)
-    (λ (b : cell_at cs p ≡ Gone). let y : ◌≡◌ {A = ℕ} 0 1 = cc in omega arith) d
+  pub sought_value : (p : ℕ) → sought cs k ≡ Some p → value_of (cell_at cs p) ≡ find (held cs) k
+  sought_value p e =
+      let w = seek_sound (length cs) cs k (length cs) 0 p e in
+      ap value_of w.1 ∙ sym (seen cs (stand_in cs m standing).found k p w.0 w.1)
 
--- the cells after a put, by what the walk met
+  pub sought_none : sought cs k ≡ None → find (held cs) k ≡ None
+  sought_none e = unseen cs (stand_in cs m standing).found k e
 
-pub cells_replaced : (cs : List Cell) (m k p : ℕ) (v : Value) → Some p ≡ sought cs k → set cs p (Live k v) ≡ put_cells cs m k v
-cells_replaced cs m k p v e = ap (λ o. write_at (option_or o (cond (leb m (live_count cs)) None (vacancy cs k))) cs (Live k v)) e
+  pub sought_has : has (held cs) k ≡ is_some (sought cs k)
+  sought_has = by (sought cs k) refl where
+    by : (o : Option ℕ) → sought cs k ≡ o → has (held cs) k ≡ is_some o
+    by None e = ap is_some (sought_none e)
+    by (Some p) e = has_seen cs (stand_in cs m standing).found k p e
 
-unmet : (cs : List Cell) (m k : ℕ) (v : Value) (o : Option ℕ) → None ≡ sought cs k → cond (leb m (live_count cs)) None (vacancy cs k) ≡ o → write_at o cs (Live k v) ≡ put_cells cs m k v
-unmet cs m k v o e d =
-    ap (λ x. write_at x cs (Live k v)) (sym d) ∙ ap (λ x. write_at (option_or x (cond (leb m (live_count cs)) None (vacancy cs k))) cs (Live k v)) e
+  -- a put is refused where the walk does not find k, and the table is full
 
-pub cells_full : (cs : List Cell) (m k : ℕ) (v : Value) → None ≡ sought cs k → m ≤ live_count cs → cs ≡ put_cells cs m k v
-cells_full cs m k v e b = unmet cs m k v None e (cond-true (leb m (live_count cs)) None (vacancy cs k) (le-leb m (live_count cs) b))
+  pub refused_full : is_some (sought cs k) ≡ false → m ≤ length (held cs) → refuses (held cs) m k ≡ true
+  refused_full e l = and_from (not (has (held cs) k)) (leb m (length (held cs))) (ap not (sought_has ∙ e)) (le-leb m (length (held cs)) l)
 
-pub cells_new : (cs : List Cell) (m k p : ℕ) (v : Value) → None ≡ sought cs k → live_count cs < m → Some p ≡ vacancy cs k → set cs p (Live k v) ≡ put_cells cs m k v
-cells_new cs m k p v e b g = unmet cs m k v (Some p) e (cond-false (leb m (live_count cs)) None (vacancy cs k) (lt-leb m (live_count cs) b) ∙ sym g)
+  pub taken_again : is_some (sought cs k) ≡ true → refuses (held cs) m k ≡ false
+  taken_again e = ap (λ x. not x && leb m (length (held cs))) (sought_has ∙ e)
+
+  pub taken_new : length (held cs) < m → refuses (held cs) m k ≡ false
+  taken_new l = ap (λ x. not (has (held cs) k) && x) (lt-leb m (length (held cs)) l) ∙ none (not (has (held cs) k)) where
+    none : (b : Bool) → b && false ≡ false
+    none true = refl
+    none false = refl
+
+  -- a put that is refused writes nowhere, and any other where the walk says
+
+  pub place_refused : refuses (held cs) m k ≡ true → put_place cs m k ≡ None
+  place_refused r = by (sought cs k) refl where
+    by : (o : Option ℕ) → sought cs k ≡ o → option_or o (cond (leb m (live_count cs)) None (vacancy cs k)) ≡ None
+    by None e = cond-true (leb m (live_count cs)) None (vacancy cs k) (sym (refuses_unseen cs m k (stand_in cs m standing) e) ∙ r)
+    by (Some p) e = absurd (true≢false (sym r ∙ refuses_seen cs m k p (stand_in cs m standing) e))
+
+  pub place_taken : refuses (held cs) m k ≡ false → put_place cs m k ≡ option_or (sought cs k) (vacancy cs k)
+  place_taken r = by (sought cs k) refl where
+    by : (o : Option ℕ) → sought cs k ≡ o → option_or o (cond (leb m (live_count cs)) None (vacancy cs k)) ≡ option_or o (vacancy cs k)
+    by None e = cond-false (leb m (live_count cs)) None (vacancy cs k) (sym (refuses_unseen cs m k (stand_in cs m standing) e) ∙ r)
+    by (Some p) e = refl
+
+  pub place_lt : (p : ℕ) → option_or (sought cs k) (vacancy cs k) ≡ Some p → p < length cs
+  place_lt p e = by (sought cs k) refl e where
+    by : (o : Option ℕ) → sought cs k ≡ o → option_or o (vacancy cs k) ≡ Some p → p < length cs
+    by None d h = let z : 0 < length cs = let t = standing.limits in omega arith in (free_sound (length cs) cs k z (length cs) 0 p h).0
+    by (Some q) d h = sought_lt p (d ∙ h)
+
+  pub place_there : refuses (held cs) m k ≡ false → option_or (sought cs k) (vacancy cs k) ≡ None → ⊥
+  place_there r e = by (sought cs k) refl e where
+    by : (o : Option ℕ) → sought cs k ≡ o → option_or o (vacancy cs k) ≡ None → ⊥
+    by None d h = room_left cs m k (stand_in cs m standing) (leb-false m (live_count cs) (sym (refuses_unseen cs m k (stand_in cs m standing) d) ∙ r)) d h
+    by (Some q) d h = none_some (Some q) q h refl

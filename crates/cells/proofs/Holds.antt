@@ -83,15 +83,6 @@ count_set [] p c l = omega arith
 count_set (d ∷ cs) zero c l = omega arith
 count_set (d ∷ cs) (suc p) c l = let ih = count_set cs p c (omega arith) in omega arith
 
-one_most : (c : Cell) → live_one c ≤ 1
-one_most Empty = omega arith
-one_most (Live k v) = omega arith
-one_most Gone = omega arith
-
-pub count_most : (cs : List Cell) → live_count cs ≤ length cs
-count_most [] = omega arith
-count_most (c ∷ cs) = let ih = count_most cs in let o = one_most c in omega arith
-
 count_full : (cs : List Cell) → ((p : ℕ) → p < length cs → live_one (cell_at cs p) ≡ 1) → live_count cs ≡ length cs
 count_full [] h = refl
 count_full (c ∷ cs) h =

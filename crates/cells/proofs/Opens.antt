@@ -1,7 +1,7 @@
 -- Opening: cells written empty hold nothing, and stand exactly where the check accepts.
-use Rattle.std.proofs.Common.{◌≡◌, ℕ, zero, suc, true, false, ◌&&◌, leb, [], sym, refl, ◌∙◌, subst, arith}
+use Rattle.std.proofs.Common.{◌≡◌, ℕ, zero, suc, true, ◌&&◌, leb, [], refl, arith}
 use Rattle.std.proofs.lemmas.List.{length-replicate}
-use Rattle.std.proofs.lemmas.Bool.{and_parts, and_from, leb-true, le-leb, true≢false}
+use Rattle.std.proofs.lemmas.Bool.{and_parts, leb-true}
 use Rattle.store.specs.Meaning.{most}
 use Rattle.cells.specs.declared.Cell.TheVariants.{Empty}
 use Rattle.cells.specs.Walk.{cell_at}
@@ -27,9 +27,6 @@ allowed_limits n m h =
     let b = and_parts (leb m n) (leb m most) a.1 in
     (leb-true 1 m a.0, leb-true m n b.0, leb-true m most b.1)
 
-limits_allowed : (n m : ℕ) → Limits n m → allowed n m ≡ true
-limits_allowed n m h = and_from (leb 1 m) (leb m n && leb m most) (le-leb 1 m h.0) (and_from (leb m n) (leb m most) (le-leb m n h.1) (le-leb m most h.2))
-
 pub cleared_stands : (n m : ℕ) → allowed n m ≡ true → Standing (cleared n) m
 cleared_stands n m a =
     let h = allowed_limits n m a in
@@ -42,9 +39,3 @@ cleared_stands n m a =
       worded = λ p k v d. absurd (let c = cell_cleared n p in let y : ◌≡◌ {A = ℕ} 0 1 = cc in omega arith);
       room = omega arith;
     })
-
-pub cleared_falls : (n m : ℕ) → allowed n m ≡ false → Standing (cleared n) m → ⊥
-cleared_falls n m a s =
-    let e = length-replicate n Empty in
-    let h : Limits n m = subst (λ x. Limits x m) e s.limits in
-    true≢false (sym (limits_allowed n m h) ∙ a)

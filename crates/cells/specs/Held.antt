@@ -10,6 +10,17 @@ use Rattle.cells.specs.declared.Cell.{Cell}
 use Rattle.cells.specs.declared.Cell.TheVariants.{Empty, Live, Gone}
 use Rattle.cells.specs.Walk.{cell_at, seat, sought, vacancy}
 
+-- the key and the value of a live cell
+abbrev pub key_of : Cell → Option ℕ
+key_of Empty = None
+key_of (Live k v) = Some k
+key_of Gone = None
+
+abbrev pub value_of : Cell → Option Value
+value_of Empty = None
+value_of (Live k v) = Some v
+value_of Gone = None
+
 -- the pairs of the live cells
 abbrev pub held_with : Cell → List (Pair Value) → List (Pair Value)
 held_with Empty ps = ps

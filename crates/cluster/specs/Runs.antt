@@ -13,6 +13,7 @@ use Rattle.machine.specs.Lent as lent
 use Rattle.machine.specs.Lent.{Lent}
 use Rattle.machine.specs.Holds.{Empty, caps_of}
 use Rattle.machine.specs.Laws.{gains, ReadsBack}
+use Rattle.machine.specs.declared.statement.Statement.{Statement}
 use Rattle.machine.specs.Statements.{closing_of, close}
 use Rattle.service.specs.declared.handed.Kept.{Kept}
 use Rattle.holder.specs.declared.Service.{Service}
@@ -45,6 +46,11 @@ EndsAs LeaveOpen b (end.Open s) = service_book s ≡ b
 EndsAs LeaveOpen b (end.Closed c) = ⊥
 EndsAs Close b (end.Open s) = ⊥
 EndsAs Close b (end.Closed c) = closing_of c.statement ≡ close b
+
+-- what is said at the end of a run, closed already or only then
+abbrev pub statement_in : {P : Type 0} → End P → Statement
+statement_in (end.Open s) = (service_closed s).statement
+statement_in (end.Closed c) = c.statement
 
 abbrev pub copied_in : {P : Type 0} → End P → ℕ
 copied_in (end.Open s) = (service_book s).copied

@@ -19,35 +19,29 @@ use service::handed::Closed;
 use service::states::Settled;
 use std::alloc::Global;
 
-// A service after some calls, and their answers.
-struct Called<P> {
-    service: Service<P>,
-    answers: Vec<Answer>,
-}
-
-// Makes the calls one after the other; each gets the service and the stores as the one before left them.
+// Makes the calls one after the other, and answers each behind the last; each gets the service and the stores as the
+// one before left them.
 fn call_all<P: Placement, B: Bank>(
-    service: Service<P>,
+    mut service: Service<P>,
     bank: &mut B,
     calls: &[Call],
-    mut answers: Vec<Answer>,
-) -> Called<P>
+    answers: &mut Vec<Answer>,
+) -> Service<P>
     requires standing { B.Bank.standing bank.old }
-    requires none_yet { (answers.items ≡ []) × (vec_len answers ≡ 0) }
-    requires room { length calls.now ≤ vec_capacity answers }
+    requires none_yet { (answers.old.items ≡ []) × (vec_len answers.old ≡ 0) }
+    requires room { length calls.now ≤ vec_capacity answers.old }
     ensures stands { B.Bank.standing bank.new }
-    ensures answers_all { result.answers.items ≡ lent.answers (P.Placement.rule (placement_of service)) (over (B.Bank.stores bank.old) (service_book service)) calls.now }
-    ensures leaves { over (B.Bank.stores bank.new) (service_book result.service) ≡ lent.after (P.Placement.rule (placement_of service)) (over (B.Bank.stores bank.old) (service_book service)) calls.now }
-    ensures placement_kept { placement_of result.service ≡ placement_of service }
+    ensures answers_all { answers.new.items ≡ lent.answers (P.Placement.rule (placement_of service)) (over (B.Bank.stores bank.old) (service_book service)) calls.now }
+    ensures leaves { over (B.Bank.stores bank.new) (service_book result) ≡ lent.after (P.Placement.rule (placement_of service)) (over (B.Bank.stores bank.old) (service_book service)) calls.now }
+    ensures placement_kept { placement_of result ≡ placement_of service }
     ensures beyond_untouched { B.Bank.beyond bank.new ≡ B.Bank.beyond bank.old }
 {
-    let mut service = service;
     for asked in calls.iter() {
         let (next, answer) = service.call(bank, *asked);
         service = next;
         answers.push_reserved(answer);
     }
-    Called { service, answers }
+    service
 }
 
 // The end of a run that is asked for.
@@ -82,28 +76,17 @@ pub fn run<P: Placement, B: Bank>(
         (UnrunAs (P.Placement.rule placement) placement (B.Bank.stores bank.old) members copies (B.Bank.stores bank.new)) }
     ensures beyond_untouched { B.Bank.beyond bank.new ≡ B.Bank.beyond bank.old }
 {
-    match Settled::open(placement, bank, members, copies) {
-        Err(kept) => Err(Unrun::Refused(kept)),
-        Ok(settled) => match Vec::with_capacity(heap, calls.len()) {
-            Err(_) => {
-                let Closed {
-                    placement,
-                    statement: _,
-                } = settled.close();
-                Err(Unrun::NoMemory(placement))
-            }
-            Ok(room) => {
-                let Called { service, answers } = call_all(
-                    Service::Settled(settled),
-                    bank,
-                    calls,
-                    room,
-                );
-                Ok(Ran {
-                    answers,
-                    end: end(service, ending),
-                })
-            }
-        },
-    }
+    let settled = Settled::open(placement, bank, members, copies).map_err(Unrun::Refused)?;
+    let Ok(mut answers) = Vec::with_capacity(heap, calls.len()) else {
+        let Closed {
+            placement,
+            statement: _,
+        } = settled.close();
+        return Err(Unrun::NoMemory(placement));
+    };
+    let service = call_all(Service::Settled(settled), bank, calls, &mut answers);
+    Ok(Ran {
+        answers,
+        end: end(service, ending),
+    })
 }

@@ -61,10 +61,6 @@ pub trailer_read_back : (t : Trailer) → FitsTrailer t → trailer_decoded (tra
 unfolding word_at le
 trailer_read_back t f = same_trailer _ t (digits t.distance f.distance_fits) (digits t.cap f.cap_fits)
 
-pub length_le : (x : ℕ) → length (le x) ≡ 8
-unfolding le
-length_le x = refl
-
 pub length_encoded : (r : Record) → length (encoded r) ≡ 32
 unfolding le
 length_encoded r = refl

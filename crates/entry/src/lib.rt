@@ -8,6 +8,7 @@ ghost use Rattle.entry.specs.Kinds.{Kind, Faithful, encoded, decoded};
 pub mod calibration;
 pub mod fault;
 pub mod reading;
+mod text;
 
 use fault::EntryFault;
 use store::value::Value;

@@ -1,6 +1,7 @@
 // Readings: what a meter has counted, and how far that is to be trusted.
 ghost use Rattle.std.specs.Prelude.{◌≡◌};
-ghost use Rattle.entry.specs.Readings.{state_word, state_of, reading_kind};
+ghost use Rattle.entry.specs.Kinds.{or_other_kind};
+ghost use Rattle.entry.specs.Readings.{state_word, state_of, sound_in, reading_kind};
 ghost use Rattle.std.proofs.Common.{rules};
 
 use crate::Entry;
@@ -22,28 +23,42 @@ pub struct Reading {
     pub state: State,
 }
 
-impl State {
-    // The second word of a reading in this state.
-    pub fn word(self) -> u64
-        ensures { result ≡ state_word self }
-    {
-        match self {
+// The second word of a reading in a state.
+// Literal cases here and below: a word that is stored is written where it is meant, and never computed.
+impl From<State> for u64 {
+    ghost from_gives = { λ state r. r ≡ state_word state };
+
+    fn from(state: State) -> u64 {
+        match state {
             State::Valid => 2,
             State::Saturated => 258,
             State::Missing => 514,
         }
     }
+}
 
-    // The state that a second word stands for, or none.
-    pub fn of_word(word: u64) -> Option<State>
-        ensures { result ≡ state_of word }
-    {
+// The state that a second word stands for.
+impl TryFrom<u64> for State {
+    type Error = EntryFault;
+
+    ghost try_from_gives = { λ word r. r ≡ or_other_kind (state_of word) };
+
+    fn try_from(word: u64) -> Result<State, EntryFault> {
         match word {
-            2 => Some(State::Valid),
-            258 => Some(State::Saturated),
-            514 => Some(State::Missing),
-            _ => None,
+            2 => Ok(State::Valid),
+            258 => Ok(State::Saturated),
+            514 => Ok(State::Missing),
+            _ => Err(EntryFault::OtherKind),
         }
+    }
+}
+
+impl Reading {
+    // Whether it is legal: a missing one has no millilitres.
+    pub fn is_legal(&self) -> bool
+        ensures { result ≡ sound_in self.now.state self.now.millilitres }
+    {
+        self.state != State::Missing || self.millilitres == 0
     }
 }
 
@@ -53,40 +68,23 @@ impl Entry for Reading {
     ghost faithful = { Prim.search rules };
 
     fn encode(&self) -> Result<Value, EntryFault> {
-        match self.state {
-            State::Missing => {
-                if self.millilitres != 0 {
-                    return Err(EntryFault::BeyondLimit);
-                }
-            }
-            _ => {}
+        if !self.is_legal() {
+            return Err(EntryFault::BeyondLimit);
         }
         Ok(Value {
             a: self.millilitres,
-            b: self.state.word(),
+            b: self.state.into(),
         })
     }
 
     fn decode(value: Value) -> Result<Reading, EntryFault> {
-        match State::of_word(value.b) {
-            Some(State::Valid) => Ok(Reading {
-                millilitres: value.a,
-                state: State::Valid,
-            }),
-            Some(State::Saturated) => Ok(Reading {
-                millilitres: value.a,
-                state: State::Saturated,
-            }),
-            Some(State::Missing) => {
-                if value.a != 0 {
-                    return Err(EntryFault::OtherKind);
-                }
-                Ok(Reading {
-                    millilitres: 0,
-                    state: State::Missing,
-                })
-            }
-            None => Err(EntryFault::OtherKind),
+        let entry = Reading {
+            millilitres: value.a,
+            state: State::try_from(value.b)?,
+        };
+        if !entry.is_legal() {
+            return Err(EntryFault::OtherKind);
         }
+        Ok(entry)
     }
 }

@@ -1,14 +1,15 @@
 -- The word that a text begins with.
-use Rattle.std.proofs.Common.{◌≡◌, ℕ, suc, ◌+◌, ◌<◌, ◌≤◌, eqb, List, [], ◌∷◌, ◌++◌, length, get_or, take, drop, sym, refl, ap, ◌∙◌, subst, ⊎_elim, arith}
-use Rattle.std.proofs.lemmas.Bool.{cases_eq, cases_lt, cond-true, cond-false, eq-eqb, ne_eqb}
+use Rattle.std.proofs.Common.{◌≡◌, ℕ, ◌+◌, ◌<◌, ◌≤◌, cond, not, ◌==◌, List, [], ◌∷◌, ◌++◌, length, get_or, take, drop, sym, refl, ap, ◌∙◌, subst, ⊎_elim, arith}
+use Rattle.std.proofs.lemmas.List.Sums.{take_while-cons}
+use Rattle.std.proofs.lemmas.Bool.{cases_eq, cases_lt, eq-eqb, ne_eqb}
 use Rattle.std.proofs.lemmas.List.{drop_more, drop_all, drop-drop, get_or-drop}
 use Rattle.grammar.specs.Slots.{Edge, Spaceless, up_to, Opens, Reads}
 
 pub up_to_space : (c : ℕ) (l : List ℕ) → c ≡ 32 → up_to (c ∷ l) ≡ []
-up_to_space c l e = cond-true (eqb c 32) _ _ (eq-eqb c 32 e)
+up_to_space c l e = take_while-cons (λ x. not (x == 32)) c l ∙ ap (λ b. cond (not b) (c ∷ up_to l) []) (eq-eqb c 32 e)
 
 pub up_to_other : (c : ℕ) (l : List ℕ) → (c ≡ 32 → ⊥) → up_to (c ∷ l) ≡ c ∷ up_to l
-up_to_other c l e = cond-false (eqb c 32) _ _ (ne_eqb c 32 e)
+up_to_other c l e = take_while-cons (λ x. not (x == 32)) c l ∙ ap (λ b. cond (not b) (c ∷ up_to l) []) (ne_eqb c 32 e)
 
 -- a word, without a space, and then an edge
 pub record Cut (l : List ℕ) (w t : List ℕ) : Type 0 where
@@ -29,16 +30,6 @@ up_to_cut (c ∷ l) =
     subst (λ w. Cut (c ∷ l) w (drop (length w) (c ∷ l))) (sym (up_to_other c l n))
     (record { whole = ap (λ x. c ∷ x) h.whole; front = ap (λ x. c ∷ x) h.front; rest = refl; plain = (n, h.plain); edge = h.edge; within = omega (arith, h.within) }))
     (cases_eq c 32)
-
--- the step of a loop, and its ends
-pub up_to_more : (l : List ℕ) (i : ℕ) → i < length l → (get_or l i 0 ≡ 32 → ⊥) → length (up_to (drop i l)) ≡ suc (length (up_to (drop (i + 1) l)))
-up_to_more l i h n = rw (drop_more l i 0 h) (ap length (up_to_other (get_or l i 0) (drop (i + 1) l) n))
-
-pub up_to_stop : (l : List ℕ) (i : ℕ) → i < length l → get_or l i 0 ≡ 32 → length (up_to (drop i l)) ≡ 0
-up_to_stop l i h e = rw (drop_more l i 0 h) (ap length (up_to_space (get_or l i 0) (drop (i + 1) l) e))
-
-pub up_to_all : (l : List ℕ) (i : ℕ) → length l ≤ i → length (up_to (drop i l)) ≡ 0
-up_to_all l i h = rw (drop_all i l h) refl
 
 pub reads_word : (xs : List ℕ) (i j : ℕ) (w : List ℕ) → i < length xs → get_or xs i 0 ≡ 32 → w ≡ up_to (drop (i + 1) xs) → j ≡ i + 1 + length w → Reads xs i j w
 reads_word xs i j w lt e is moved =

@@ -1,35 +1,23 @@
 -- How far a text goes with the words of a list.
-use Rattle.std.proofs.Common.{◌≡◌, ℕ, zero, suc, ◌+◌, ◌<◌, ◌≤◌, max, Bool, true, ◌&&◌, eqb, ltb, List, [], ◌∷◌, ◌++◌, length, get_or, take, drop, Ok, Err, IsUtf8, Result, sym, refl, ap, ◌∙◌, subst, inl, inr, ⊎_elim, arith, Bor, MatchResult}
-use Rattle.std.proofs.lemmas.Bool.{cases_eq, cases_lt, cond-true, cond-false, eq-eqb, ne_eqb, ltb-true, and_parts}
+use Rattle.std.proofs.Common.{◌≡◌, ℕ, zero, suc, ◌+◌, ◌<◌, ◌≤◌, max, Bool, true, ◌&&◌, eqb, ◌==◌, cond, ltb, List, [], ◌∷◌, ◌++◌, length, get_or, take, Ok, Err, IsUtf8, Result, sym, refl, ap, ◌∙◌, subst, inl, inr, ⊎_elim, arith, Bor, MatchResult}
+use Rattle.std.proofs.lemmas.Bool.{cases_eq, cases_lt, cond-false, eq-eqb, ne_eqb, ltb-true, and_parts}
 use Rattle.std.proofs.lemmas.Str.{IsUtf8-from_ascii}
-use Rattle.std.proofs.lemmas.List.{drop_more, drop_all}
-use Rattle.std.specs.List.{AllByRecursion as All}
+use Rattle.std.specs.List.{AllByRecursion as All, prefix_len, zip}
 use Rattle.std.specs.Result.{result_unwrap_or}
 use Rattle.grammar.specs.Languages.{Begins, Stops, OneOf}
 use Rattle.grammar.specs.Slots.{common, furthest}
 
 pub common_same : (x y : ℕ) (xs ys : List ℕ) → x ≡ y → common (x ∷ xs) (y ∷ ys) ≡ suc (common xs ys)
-common_same x y xs ys e = cond-true (eqb x y) _ _ (eq-eqb x y e)
+common_same x y xs ys e = ap (λ b. cond b (1 + common xs ys) 0) (eq-eqb x y e) ∙ omega arith
 
 pub common_apart : (x y : ℕ) (xs ys : List ℕ) → (x ≡ y → ⊥) → common (x ∷ xs) (y ∷ ys) ≡ 0
 common_apart x y xs ys e = cond-false (eqb x y) _ _ (ne_eqb x y e)
 
-pub common_none : (xs : List ℕ) → common xs [] ≡ 0
-common_none [] = refl
-common_none (x ∷ xs) = refl
-
--- the step of a loop, and its three ends
-pub common_more : (xs ys : List ℕ) (n : ℕ) → n < length xs → n < length ys → get_or xs n 0 ≡ get_or ys n 0 → common (drop n xs) (drop n ys) ≡ suc (common (drop (n + 1) xs) (drop (n + 1) ys))
-common_more xs ys n h k e = rw (drop_more xs n 0 h, drop_more ys n 0 k) (common_same _ _ (drop (n + 1) xs) (drop (n + 1) ys) e)
-
-pub common_differs : (xs ys : List ℕ) (n : ℕ) → n < length xs → n < length ys → (get_or xs n 0 ≡ get_or ys n 0 → ⊥) → common (drop n xs) (drop n ys) ≡ 0
-common_differs xs ys n h k e = rw (drop_more xs n 0 h, drop_more ys n 0 k) (common_apart _ _ (drop (n + 1) xs) (drop (n + 1) ys) e)
-
-pub common_past : (xs ys : List ℕ) (n : ℕ) → length xs ≤ n → common (drop n xs) (drop n ys) ≡ 0
-common_past xs ys n h = rw (drop_all n xs h) refl
-
-pub common_over : (xs ys : List ℕ) (n : ℕ) → length ys ≤ n → common (drop n xs) (drop n ys) ≡ 0
-common_over xs ys n h = rw (drop_all n ys h) (common_none (drop n xs))
+-- the pairs of bytes that agree, from the first on
+pub common_pairs : (xs ys : List ℕ) → prefix_len (λ p. p.0 == p.1) (zip xs ys) ≡ common xs ys
+common_pairs [] ys = refl
+common_pairs (x ∷ xs) [] = refl
+common_pairs (x ∷ xs) (y ∷ ys) = ap (λ n. cond (x == y) (1 + n) 0) (common_pairs xs ys)
 
 common_within : (w a : List ℕ) → common w a ≤ length w
 common_within [] a = omega arith

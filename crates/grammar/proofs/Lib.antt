@@ -5,4 +5,3 @@ pub mod Seams
 pub mod Wholes
 pub mod Once
 pub mod Cuts
-pub mod Going

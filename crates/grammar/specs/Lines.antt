@@ -1,5 +1,6 @@
 -- The lines of a script: what each says, and what a script is cut into.
-use Rattle.std.specs.Prelude.{◌≡◌, ℕ, suc, ◌^◌, ◌<◌, cond, List, [], ◌∷◌, ◌++◌, length, codes, decimal, ◌==◌}
+use Rattle.std.specs.Prelude.{◌≡◌, ℕ, ◌^◌, ◌<◌, cond, List, [], ◌∷◌, ◌++◌, length, codes, decimal, ◌==◌}
+use Rattle.std.specs.List.{position_or_len}
 use Rattle.machine.specs.declared.call.Call.{Call}
 use Rattle.machine.specs.declared.call.Call.TheVariants as calls
 use Rattle.grammar.specs.declared.command.Command.{Command}
@@ -85,8 +86,7 @@ lines_of (c ∷ t) = cond (c == 10) ([] ∷ lines_of t) (grown c (lines_of t))
 
 -- how many bytes stand before the first line feed
 abbrev pub ahead : List ℕ → ℕ
-ahead [] = 0
-ahead (c ∷ t) = cond (c == 10) 0 (suc (ahead t))
+ahead = position_or_len (λ c. c == 10)
 
 -- a line gives one command or opening at most, and is refused at one column at most; no longer front of a refused line
 -- begins a legal one

@@ -1,5 +1,5 @@
 -- What a reader finds as it goes from word to word of a line.
-use Rattle.std.specs.Prelude.{◌≡◌, ℕ, List, [], ◌∷◌, ◌++◌, drop}
+use Rattle.std.specs.Prelude.{◌≡◌, ℕ, ◌^◌, ◌<◌, List, [], ◌∷◌, ◌++◌, drop, decimal}
 use Rattle.grammar.specs.declared.fault.Place.{Place}
 use Rattle.grammar.specs.declared.command.Command.{Command}
 use Rattle.grammar.specs.declared.command.Verb.{Verb}
@@ -8,7 +8,7 @@ use Rattle.grammar.specs.declared.opening.Opening.{Opening}
 use Rattle.grammar.specs.declared.opening.Keyword.TheVariants.{Cluster}
 use Rattle.grammar.specs.Spelling.{verb_text, keyword_text}
 use Rattle.grammar.specs.Slots.{Slot, number, state, policy, kind, In, Opens, Reads, Misfit, Strays}
-use Rattle.grammar.specs.Lines.{Fits, line_text, OpeningFits, opening_text}
+use Rattle.grammar.specs.Lines.{spaced, Fits, line_text, OpeningFits, opening_text}
 
 module _ {V : Type 0} (spells : V → List ℕ → Type 0) (line : List ℕ) where
   -- the line's first word stands for v, and ends at place j
@@ -27,6 +27,14 @@ module _ {V : Type 0} (spells : V → List ℕ → Type 0) (line : List ℕ) whe
   pub record Last (i j : ℕ) (v : V) : Type 0 where
     pub next : Next i j v
     pub ends : drop j line ≡ []
+
+  -- from place i the line has two numbers and a word that stands for the third value, each after one space, and ends there
+  pub record Triple (i : ℕ) (t : ℕ × ℕ × V) : Type 0 where
+    pub first : t.0 < 2 ^ 64
+    pub second : t.1 < 2 ^ 64
+    pub word : List ℕ
+    pub spelled : spells t.2 word
+    pub text : drop i line ≡ spaced (decimal t.0 ∷ decimal t.1 ∷ word ∷ [])
 
 -- the line's first word is none of its sort
 pub record FirstFault (slot : Slot) (line : List ℕ) (number : ℕ) (p : Place) : Type 0 where

@@ -1,5 +1,6 @@
 -- What may stand as a word of a line, and how a reader goes from word to word.
-use Rattle.std.specs.Prelude.{◌≡◌, ℕ, suc, ◌+◌, ◌^◌, ◌<◌, max, cond, List, [], ◌∷◌, ◌++◌, length, drop, decimal, ◌==◌, ◌≢◌}
+use Rattle.std.specs.Prelude.{◌≡◌, ℕ, ◌+◌, ◌^◌, ◌<◌, max, List, [], ◌∷◌, ◌++◌, length, drop, decimal, ◌==◌, ◌≢◌}
+use Rattle.std.specs.List.{before_first, common_prefix_len}
 use Rattle.grammar.specs.Languages.{Stops, OneOf}
 use Rattle.grammar.specs.Spelling.{states, policies, kinds, verbs, keywords}
 
@@ -23,9 +24,7 @@ In keyword w = OneOf keywords w
 
 -- how many bytes two texts have in common at their front
 abbrev pub common : List ℕ → List ℕ → ℕ
-common [] ys = 0
-common (x ∷ xs) [] = 0
-common (x ∷ xs) (y ∷ ys) = cond (x == y) (suc (common xs ys)) 0
+common = common_prefix_len ◌==◌
 
 -- how many w has in common with some word of the list, at most
 abbrev pub furthest : List (List ℕ) → List ℕ → ℕ
@@ -43,8 +42,7 @@ Spaceless (c ∷ l) = (c ≢ 32) × Spaceless l
 
 -- the bytes of l up to a space
 abbrev pub up_to : List ℕ → List ℕ
-up_to [] = []
-up_to (c ∷ l) = cond (c == 32) [] (c ∷ up_to l)
+up_to = before_first (λ c. c == 32)
 
 -- what may follow a line's first word: each of the slots, after one space
 abbrev pub Tail : List Slot → List ℕ → Type 0

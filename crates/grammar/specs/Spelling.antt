@@ -1,7 +1,7 @@
 -- How each word of a script is written.
 use Rattle.std.specs.Prelude.{◌≡◌, ℕ, ◌^◌, ◌<◌, List, [], ◌∷◌, codes, decimal}
-use Rattle.entry.specs.declared.reading.State.{State}
 use Rattle.entry.specs.declared.reading.State.TheVariants.{Valid, Saturated, Missing}
+pub use Rattle.entry.specs.Texts.{state_text}
 use Rattle.placement.specs.declared.policies.Policy.{Policy}
 use Rattle.placement.specs.declared.policies.Policy.TheVariants.{Rendezvous, Jump}
 use Rattle.grammar.specs.declared.command.Verb.{Verb}
@@ -14,11 +14,6 @@ use Rattle.grammar.specs.declared.opening.Keyword.TheVariants.{Cluster}
 -- a number below 2^64, without leading zeros
 abbrev pub WritesNumber : ℕ → List ℕ → Type 0
 WritesNumber n w = (n < 2 ^ 64) × (w ≡ decimal n)
-
-abbrev pub state_text : State → List ℕ
-state_text Valid = codes "valid"
-state_text Saturated = codes "saturated"
-state_text Missing = codes "missing"
 
 abbrev pub policy_text : Policy → List ℕ
 policy_text Rendezvous = codes "rendezvous"

@@ -24,7 +24,7 @@ impl From<WordFault> for LineFault {
 }
 
 impl LineFault {
-    // Where the line stops beginning a legal one.
+    // Where the line stops beginning a legal one. A field of each variant is read: nothing is converted.
     pub fn place(&self) -> Place
         ensures { result ≡ place_of self.now }
     {
@@ -35,18 +35,18 @@ impl LineFault {
     }
 }
 
-impl Command {
-    // The call that a command makes.
-    pub fn call(&self) -> Call
-        ensures { result ≡ call_of self.now }
-    {
-        match self {
-            Command::Cal { key, entry } => Call::PutCalibration(*key, *entry),
-            Command::Read { key, entry } => Call::PutReading(*key, *entry),
-            Command::Get { key } => Call::Get(*key),
-            Command::Del { key } => Call::Remove(*key),
-            Command::Join { store } => Call::Join(*store as usize),
-            Command::Leave { store } => Call::Leave(*store as usize),
+// The call that a command makes.
+impl From<Command> for Call {
+    ghost from_gives = { λ command r. r ≡ call_of command };
+
+    fn from(command: Command) -> Call {
+        match command {
+            Command::Cal { key, entry } => Call::PutCalibration(key, entry),
+            Command::Read { key, entry } => Call::PutReading(key, entry),
+            Command::Get { key } => Call::Get(key),
+            Command::Del { key } => Call::Remove(key),
+            Command::Join { store } => Call::Join(store as usize),
+            Command::Leave { store } => Call::Leave(store as usize),
             Command::Step => Call::Step,
         }
     }

@@ -9,7 +9,7 @@ pub enum Kind {
     Mixed,
 }
 
-// The word that the first line begins with.
+// The word that the first line begins with. A type for one word, so that it is read as the others are.
 #[derive(Clone, Copy)]
 pub enum Keyword {
     Cluster,

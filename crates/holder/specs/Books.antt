@@ -15,7 +15,7 @@ service_book (service.Moving m) = moving_book m
 
 abbrev pub placement_of : {P : Type 0} → Service P → P
 placement_of (service.Settled s) = s.placement
-placement_of (service.Moving m) = m.placement
+placement_of (service.Moving m) = m.settled.placement
 
 abbrev pub service_closed : {P : Type 0} → Service P → Closed P
 service_closed (service.Settled s) = settled_closed s

@@ -1,10 +1,12 @@
 // A service of either kind, as whoever runs a list of calls holds it: every call is a value, and a join or leave in a
-// change, or a step without one, is refused while the program runs.
+// change, or a step without one, is refused while the program runs. Each contract says itself that the stores stand and
+// what stays as it was: a caller reads one contract alone.
 #![tactic(auto)]
 
-ghost use Rattle.std.specs.Prelude.{◌≡◌, cond, eqb, length};
+ghost use Rattle.std.specs.Prelude.{◌≡◌, cond, eqb, length, MatchResult};
+ghost use Rattle.std.specs.Result.{ForOk};
 ghost use Rattle.machine.specs.Lent as lent;
-ghost use Rattle.machine.specs.Outcomes.{answer_by, step_answer};
+ghost use Rattle.machine.specs.Outcomes.{refuse, step_answer};
 ghost use Rattle.machine.specs.declared.answer.Answer.TheVariants as answers;
 ghost use Rattle.machine.specs.declared.fault.Fault.TheVariants as faults;
 ghost use Rattle.service.specs.Books.{moving_book, changing, changing_book, changing_placement};
@@ -12,8 +14,6 @@ ghost use Rattle.serving.specs.Calls.{over, Gives};
 ghost use Rattle.holder.specs.Books.{service_book, placement_of, service_closed, Replies};
 
 use bank::Bank;
-use entry::calibration::Calibration;
-use entry::reading::Reading;
 use machine::answer::{Answer, Moved};
 use machine::call::Call;
 use machine::fault::Fault;
@@ -22,9 +22,8 @@ use placement::roster::Roster;
 use service::handed::{Closed, Kept, Stepped};
 use service::states::{Moving, Settled};
 use serving::Serving;
-use store::Put;
-use store::value::Value;
 
+// A service of either type. What the two share is `Serving`; every other call chooses by the type, once, in a match.
 pub enum Service<P> {
     Settled(Settled<P>),
     Moving(Moving<P>),
@@ -50,19 +49,28 @@ impl<P: Placement> Serving for Service<P> {
     }
 }
 
-// Why a join or leave of a service in a change is refused.
-fn refused_in_change<P: Placement, B: Bank>(moving: &Moving<P>, bank: &B) -> Fault
+// Why a call that the state does not take is refused: the stores are counted first.
+fn refused<S: Serving, B: Bank>(service: &S, bank: &B, state: Fault) -> Fault
     requires { B.Bank.standing bank.now }
-    ensures { result ≡ cond (eqb (length (B.Bank.stores bank.now)) (moving_book moving.now).stores) faults.InChange faults.OtherStores }
+    ensures { result ≡ cond (eqb (length (B.Bank.stores bank.now)) (S.Serving.book service.now).stores) state faults.OtherStores }
 {
-    if bank.len() != moving.stores() {
-        Fault::OtherStores
-    } else {
-        Fault::InChange
-    }
+    serving::all_lent(service, bank).err().unwrap_or(state)
 }
 
-// What a join or a leave handed back, as the holder hands it on.
+// A join or a leave of a service in a change, which is refused.
+fn refused_in_change<P: Placement, B: Bank>(
+    moving: Moving<P>,
+    bank: &B,
+) -> (Service<P>, Result<usize, Fault>)
+    requires { B.Bank.standing bank.now }
+    ensures in_change { Gives (lent.all_lent (over (B.Bank.stores bank.now) (moving_book moving)) (refuse (over (B.Bank.stores bank.now) (moving_book moving)) faults.InChange)) result.1 (over (B.Bank.stores bank.now) (service_book result.0)) }
+    ensures placement_kept { placement_of result.0 ≡ moving.settled.placement }
+{
+    let fault = refused(&moving, bank, Fault::InChange);
+    (Service::Moving(moving), Err(fault))
+}
+
+// What a join or a leave handed back, as the holder hands it on. Either arm has a service of its own type.
 fn handed<P>(res: Result<Moving<P>, Kept<Settled<P>>>) -> (Service<P>, Result<usize, Fault>)
     ensures result_handed { result.1 ≡ changing res }
     ensures book_handed { service_book result.0 ≡ changing_book res }
@@ -73,10 +81,7 @@ fn handed<P>(res: Result<Moving<P>, Kept<Settled<P>>>) -> (Service<P>, Result<us
             let opened = moving.store();
             (Service::Moving(moving), Ok(opened))
         }
-        Err(kept) => {
-            let Kept { fault, service } = kept;
-            (Service::Settled(service), Err(fault))
-        }
+        Err(Kept { fault, service }) => (Service::Settled(service), Err(fault)),
     }
 }
 
@@ -89,14 +94,11 @@ impl<P: Placement> Service<P> {
     {
         match self {
             Service::Settled(settled) => handed(settled.join(bank, store)),
-            Service::Moving(moving) => {
-                let fault = refused_in_change(&moving, bank);
-                (Service::Moving(moving), Err(fault))
-            }
+            Service::Moving(moving) => refused_in_change(moving, bank),
         }
     }
 
-    // Opens a change that takes a member out; refused in a change.
+    // Opens a change that takes a member out; refused in a change. As `join` but for the call that it hands on.
     pub fn leave<B: Bank>(self, bank: &B, store: usize) -> (Service<P>, Result<usize, Fault>)
         requires { B.Bank.standing bank.now }
         ensures leaves { Gives (lent.leave (P.Placement.rule (placement_of self)) (over (B.Bank.stores bank.now) (service_book self)) store) result.1 (over (B.Bank.stores bank.now) (service_book result.0)) }
@@ -104,10 +106,7 @@ impl<P: Placement> Service<P> {
     {
         match self {
             Service::Settled(settled) => handed(settled.leave(bank, store)),
-            Service::Moving(moving) => {
-                let fault = refused_in_change(&moving, bank);
-                (Service::Moving(moving), Err(fault))
-            }
+            Service::Moving(moving) => refused_in_change(moving, bank),
         }
     }
 
@@ -121,25 +120,18 @@ impl<P: Placement> Service<P> {
     {
         match self {
             Service::Settled(settled) => {
-                let fault = if bank.len() != settled.stores() {
-                    Fault::OtherStores
-                } else {
-                    Fault::NoChange
-                };
+                let fault = refused(&settled, bank, Fault::NoChange);
                 (Service::Settled(settled), Err(fault))
             }
             Service::Moving(moving) => match moving.step(bank) {
                 Ok(Stepped::Done(settled)) => (Service::Settled(settled), Ok(None)),
                 Ok(Stepped::Onward(moved, moving)) => (Service::Moving(moving), Ok(Some(moved))),
-                Err(kept) => {
-                    let Kept { fault, service } = kept;
-                    (Service::Moving(service), Err(fault))
-                }
+                Err(Kept { fault, service }) => (Service::Moving(service), Err(fault)),
             },
         }
     }
 
-    // Any call of a list.
+    // Any call of a list: a call is a value, so each is a case of its own.
     pub fn call<B: Bank>(self, bank: &mut B, asked: Call) -> (Service<P>, Answer)
         requires { B.Bank.standing bank.old }
         ensures stands { B.Bank.standing bank.new }
@@ -149,51 +141,42 @@ impl<P: Placement> Service<P> {
     {
         match asked {
             Call::Get(key) => {
-                let answer = found(serving::get(&self, bank, key));
-                (self, answer)
+                let found = serving::get(&self, bank, key);
+                answered((self, found), Answer::Found)
             }
             Call::Put(key, value) => {
-                let answer = stored(serving::put(&self, bank, key, value));
-                (self, answer)
+                let put = serving::put(&self, bank, key, value);
+                answered((self, put), Answer::Stored)
             }
             Call::Remove(key) => {
-                let answer = removed(serving::remove(&self, bank, key));
-                (self, answer)
+                let held = serving::remove(&self, bank, key);
+                answered((self, held), Answer::Removed)
             }
             Call::GetCalibration(key) => {
-                let answer = found_calibration(serving::get_entry(&self, bank, key));
-                (self, answer)
+                let found = serving::get_entry(&self, bank, key);
+                answered((self, found), Answer::FoundCalibration)
             }
             Call::PutCalibration(key, entry) => {
-                let answer = stored(serving::put_entry(&self, bank, key, &entry));
-                (self, answer)
+                let put = serving::put_entry(&self, bank, key, &entry);
+                answered((self, put), Answer::Stored)
             }
             Call::GetReading(key) => {
-                let answer = found_reading(serving::get_entry(&self, bank, key));
-                (self, answer)
+                let found = serving::get_entry(&self, bank, key);
+                answered((self, found), Answer::FoundReading)
             }
             Call::PutReading(key, entry) => {
-                let answer = stored(serving::put_entry(&self, bank, key, &entry));
-                (self, answer)
+                let put = serving::put_entry(&self, bank, key, &entry);
+                answered((self, put), Answer::Stored)
             }
-            Call::Join(store) => {
-                let (service, result) = self.join(bank, store);
-                (service, opened(result))
-            }
-            Call::Leave(store) => {
-                let (service, result) = self.leave(bank, store);
-                (service, opened(result))
-            }
-            Call::Step => {
-                let (service, result) = self.step(bank);
-                (service, stepped(result))
-            }
+            Call::Join(store) => answered(self.join(bank, store), Answer::Opened),
+            Call::Leave(store) => answered(self.leave(bank, store), Answer::Opened),
+            Call::Step => answered(self.step(bank), stepped),
         }
     }
 }
 
 impl<P> Service<P> {
-    // Ends the service, in whichever state it is.
+    // Ends the service, in whichever state it is: one line for each type, as in `stores`.
     pub fn close(self) -> Closed<P>
         ensures { result ≡ service_closed self }
     {
@@ -204,67 +187,22 @@ impl<P> Service<P> {
     }
 }
 
-// The answers that results stand for.
-fn found(res: Result<Option<Value>, Fault>) -> Answer
-    ensures { result ≡ answer_by answers.Found res }
+// The answer that a call's result stands for, beside the service as the call left it.
+fn answered<P, R, F: FnOnce(R) -> Answer>(
+    handed: (Service<P>, Result<R, Fault>),
+    answer: F,
+) -> (Service<P>, Answer)
+    requires { ForOk handed.1 (F.pre answer) }
+    ensures service_handed { result.0 ≡ handed.0 }
+    ensures answer_by { MatchResult handed.1 (λ r. F.post answer r result.1) (λ fault. result.1 ≡ answers.Refused fault) }
 {
-    match res {
-        Ok(value) => Answer::Found(value),
-        Err(fault) => Answer::Refused(fault),
-    }
+    let (service, res) = handed;
+    (service, res.map_or_else(Answer::Refused, answer))
 }
 
-fn found_calibration(res: Result<Option<Calibration>, Fault>) -> Answer
-    ensures { result ≡ answer_by answers.FoundCalibration res }
+// What a step answers that moved a key, or ended the change.
+fn stepped(moved: Option<Moved>) -> Answer
+    ensures { result ≡ step_answer moved }
 {
-    match res {
-        Ok(entry) => Answer::FoundCalibration(entry),
-        Err(fault) => Answer::Refused(fault),
-    }
-}
-
-fn found_reading(res: Result<Option<Reading>, Fault>) -> Answer
-    ensures { result ≡ answer_by answers.FoundReading res }
-{
-    match res {
-        Ok(entry) => Answer::FoundReading(entry),
-        Err(fault) => Answer::Refused(fault),
-    }
-}
-
-fn stored(res: Result<Put, Fault>) -> Answer
-    ensures { result ≡ answer_by answers.Stored res }
-{
-    match res {
-        Ok(put) => Answer::Stored(put),
-        Err(fault) => Answer::Refused(fault),
-    }
-}
-
-fn removed(res: Result<bool, Fault>) -> Answer
-    ensures { result ≡ answer_by answers.Removed res }
-{
-    match res {
-        Ok(held) => Answer::Removed(held),
-        Err(fault) => Answer::Refused(fault),
-    }
-}
-
-fn opened(res: Result<usize, Fault>) -> Answer
-    ensures { result ≡ answer_by answers.Opened res }
-{
-    match res {
-        Ok(store) => Answer::Opened(store),
-        Err(fault) => Answer::Refused(fault),
-    }
-}
-
-fn stepped(res: Result<Option<Moved>, Fault>) -> Answer
-    ensures { result ≡ answer_by step_answer res }
-{
-    match res {
-        Ok(None) => Answer::Done,
-        Ok(Some(moved)) => Answer::Moved(moved),
-        Err(fault) => Answer::Refused(fault),
-    }
+    moved.map_or(Answer::Done, Answer::Moved)
 }

@@ -1,15 +1,14 @@
 -- A walk over a map by its next keys lists its pairs in order.
-use Rattle.std.proofs.Common.{◌≡◌, ℕ, ◌+◌, ◌<◌, ◌≤◌, true, false, eqb, leb, ◌⊎◌, List, [], ◌∷◌, ◌++◌, Some, None, Option, sym, refl, ap, ◌∙◌, inl, inr, ⊎_elim, append_assoc, append-nil, arith}
-use Rattle.std.proofs.lemmas.Bool.{cond-true, cond-false, cases_Bool, leb-true, leb-false, le-leb, lt-leb, eq-eqb, ne_eqb}
+use Rattle.std.proofs.Common.{◌≡◌, ℕ, ◌+◌, ◌<◌, ◌≤◌, true, false, eqb, leb, ◌⊎◌, List, [], ◌∷◌, Some, None, Option, sym, refl, ap, ◌∙◌, inl, inr, ⊎_elim, arith, ◌^◌, is_some}
+use Rattle.std.specs.Option.{SomeIff}
+use Rattle.std.proofs.lemmas.Bool.{false≢true, cond-true, cond-false, cases_Bool, leb-true, leb-false, le-leb, lt-leb, eq-eqb, ne_eqb}
 use Rattle.std.proofs.lemmas.Bool.Decides.{nat_tests}
-use Rattle.pairs.specs.Pairs.{Pair, find, next_key, keep, Above, Ascending}
+use Rattle.pairs.specs.Pairs.{Pair, find, next_key, Above, Ascending}
 use Rattle.store.specs.declared.value.Value.{Value}
-use Rattle.inspection.specs.Text.{pair_line, pair_lines}
-use Rattle.pairs.proofs.Maps.{above_ascends, keep_same, keep_nothing, next_bound, none_some, some_same}
-
--- the pairs whose key is not below c
-abbrev pub from_on : {V : Type 0} → ℕ → List (Pair V) → List (Pair V)
-from_on c ps = keep (leb c) ps
+use Rattle.log_theory.specs.Tape.{Tape, pairs_of, Standing}
+use Rattle.log_theory.proofs.Calls.{standing_lawful}
+use Rattle.inspection.specs.Left.{from_on, left_from}
+use Rattle.pairs.proofs.Maps.{above_ascends, keep_same, keep_nothing, next_bound, next_present, none_some, some_same}
 
 module _ {V : Type 0} where
   pub from_zero : (ps : List (Pair V)) → from_on 0 ps ≡ ps
@@ -55,13 +54,18 @@ module _ {V : Type 0} where
       beyond q None e = inl e
       beyond q (Some v) e = inr (lt-leb b q (h q v e))
 
--- the lines written so far and those of the pairs that are left, when one pair more is written
-pub wrote_one : (ps : List (Pair Value)) (c k : ℕ) (v : Value) (before after whole : List ℕ) → Ascending ps → next_key ps c ≡ Some k → find ps k ≡ Some v
-    → after ≡ before ++ pair_line k v → before ++ pair_lines (from_on c ps) ≡ whole → after ++ pair_lines (from_on (k + 1) ps) ≡ whole
-wrote_one ps c k v before after whole a n f e h =
-    ap (λ t. t ++ pair_lines (from_on (k + 1) ps)) e ∙ append_assoc before (pair_line k v) (pair_lines (from_on (k + 1) ps))
-    ∙ ap (λ z. before ++ pair_lines z) (sym (from_next ps c k v a n f)) ∙ h
+-- where a log's next key is, and its value, the walk goes on behind the key, as long as there are keys
+pub walk_on : (t : Tape) (cap c k : ℕ) (v : Value) (o : Option ℕ) → Standing t cap → next_key (pairs_of t) c ≡ Some k → find (pairs_of t) k ≡ Some v →
+    SomeIff o (k + 1 < 2 ^ 64) (k + 1) → from_on c (pairs_of t) ≡ record { key = k; value = v } ∷ left_from o (pairs_of t)
+walk_on t cap c k v o s n f m =
+    let l = standing_lawful t cap s in
+    let one = from_next (pairs_of t) c k v l.ordered n f in
+    one ∙ ap (λ z. record { key = k; value = v } ∷ z) (rest o m)
+  where
+    rest : (o : Option ℕ) → SomeIff o (k + 1 < 2 ^ 64) (k + 1) → from_on (k + 1) (pairs_of t) ≡ left_from o (pairs_of t)
+    rest None h = from_past (pairs_of t) (k + 1) (standing_lawful t cap s).ordered (λ q w e. let fit = ((standing_lawful t cap s).words q w e).key_fits in grind arith)
+    rest (Some n) h = ap (λ u. from_on u (pairs_of t)) (sym h.1)
 
--- and when none is left
-pub wrote_all : (ps : List (Pair Value)) (c : ℕ) (out whole : List ℕ) → from_on c ps ≡ [] → out ++ pair_lines (from_on c ps) ≡ whole → out ≡ whole
-wrote_all ps c out whole e h = sym (append-nil out) ∙ ap (λ z. out ++ pair_lines z) (sym e) ∙ h
+-- a next key has a value
+pub next_has : {V : Type 0} (ps : List (Pair V)) (c k : ℕ) → next_key ps c ≡ Some k → find ps k ≡ None → ⊥
+next_has ps c k n f = false≢true (ap is_some (sym f) ∙ next_present ps c k n)

@@ -12,7 +12,7 @@ use store::{Put, Store};
 pub struct Mirror<A, B> {
     left: A,
     right: B,
-    // Whether both halves were empty when the mirror was made: else it does not stand.
+    // Whether the check accepted the halves: making is never refused, and a mirror of halves that held pairs must not stand.
     opened: bool,
 }
 
@@ -40,7 +40,7 @@ impl<A: Store, B: Store> Mirror<A, B> {
         ensures stands_where_empty { both_empty (A.Store.pairs left) (B.Store.pairs right) ≡ true → Mirrored (A.Store.standing result.left) (B.Store.standing result.right) (A.Store.pairs result.left) (B.Store.pairs result.right) result.opened }
         ensures falls_where_held { both_empty (A.Store.pairs left) (B.Store.pairs right) ≡ false → Mirrored (A.Store.standing result.left) (B.Store.standing result.right) (A.Store.pairs result.left) (B.Store.pairs result.right) result.opened → ⊥ }
     {
-        let opened = left.count() == 0 && right.count() == 0;
+        let opened = Self::check(&left, &right).is_ok();
         Mirror {
             left,
             right,
@@ -68,8 +68,7 @@ impl<A: Store, B: Store> Store for Mirror<A, B> {
     }
 
     fn put(&mut self, key: u64, value: Value) -> Result<Put, StoreFault> {
-        let cap = self.left.cap().min(self.right.cap());
-        if full_for(&self.left, cap, key) {
+        if full_for(&self.left, self.cap(), key) {
             return Err(StoreFault::Full);
         }
         let _ = self.right.put(key, value);

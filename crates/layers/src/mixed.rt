@@ -33,6 +33,7 @@ impl<A: Store, B: Store> Mixed<A, B> {
     }
 }
 
+// Each call asks the mark anew: the two stores differ in type, so a helper would take a closure for each.
 impl<A: Store, B: Store> Store for Mixed<A, B> {
     ghost pairs = { λ m. of_marked m.marked (A.Store.pairs m.first) (B.Store.pairs m.second) };
 

@@ -32,10 +32,7 @@ fn live<P: Placement + Drop, B: Bank>(
                 end(rt, moving)?;
                 println!(rt; "after it moved {}", moved.key)
             }
-            Err(kept) => {
-                let Kept { fault: _, service } = kept;
-                end(rt, service)
-            }
+            Err(Kept { fault: _, service }) => end(rt, service),
         },
     }
 }
@@ -47,7 +44,8 @@ fn end<P: Drop>(rt: &HostRuntime, moving: Moving<P>) -> io::Result<()> {
     println!(rt; "closed in a change of store {store}")
 }
 
-fn refused<P: Drop>(rt: &HostRuntime, kept: Kept<Settled<P>>) -> io::Result<()> {
+// Prints a refusal, and drops what it handed back.
+fn refused<T: Drop>(rt: &HostRuntime, kept: Kept<T>) -> io::Result<()> {
     let Kept { fault, service: _ } = kept;
     println!(rt; "refused: {}", fault.number())
 }
@@ -70,9 +68,6 @@ fn main(rt: HostRuntime) -> io::Result<()> {
     };
     match Settled::open(Rendezvous, &bank, 1, 1) {
         Ok(settled) => live(&rt, &mut bank, settled),
-        Err(kept) => {
-            let Kept { fault, service: _ } = kept;
-            println!(rt; "refused: {}", fault.number())
-        }
+        Err(kept) => refused(&rt, kept),
     }
 }

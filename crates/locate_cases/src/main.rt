@@ -17,10 +17,10 @@ fn main(rt: HostRuntime) -> anyhow::Result<()> {
 // Writes the answer to one question, or the refusal.
 fn answer(rt: &HostRuntime, question: &str) -> anyhow::Result<()> {
     let heap = rt.alloc();
-    let mut words = Vec::new(heap);
-    for word in question.split(' ') {
-        words.push(String::from_str(heap, word)?)?;
-    }
+    let words: Vec<String> = question
+        .split(' ')
+        .map(|word| String::from_str(heap, word))
+        .try_collect(heap)?;
     match locate(heap, words.as_slice()) {
         Ok(text) => rt.print(text)?,
         Err(LocateFault::Word(f)) => rt.println(f)?,

@@ -1,5 +1,6 @@
 -- The line of a key: the key, its stores, and its stores once the last member has left.
 use Rattle.std.specs.Prelude.{◌≡◌, ℕ, ◌-◌, List, [], ◌∷◌, ◌++◌, Some, None, vec_items, codes, decimal, Option}
+use Rattle.std.specs.List.{flat_map}
 use Rattle.lists.specs.Numbers.{without, count_up}
 use Rattle.placement.specs.Laws.{Rule}
 use Rattle.placement.specs.Policies.{rule_of}
@@ -10,8 +11,7 @@ use Rattle.locator.specs.Questions.{Text, Asks}
 
 -- further stores, each behind a comma
 abbrev pub more_stores : List ℕ → Text
-more_stores [] = []
-more_stores (s ∷ l) = codes "," ++ (decimal s ++ more_stores l)
+more_stores = flat_map (λ s. codes "," ++ decimal s)
 
 -- stores joined by commas, `-` for none
 abbrev pub joined : List ℕ → Text
@@ -28,8 +28,7 @@ abbrev pub line : Rule → ℕ → List ℕ → List ℕ → ℕ → Text
 line p copies R S k = decimal k ++ (codes " " ++ (joined (stores_of p copies k R) ++ (codes " " ++ (joined (stores_of p copies k S) ++ codes "\n"))))
 
 abbrev pub lines : Rule → ℕ → List ℕ → List ℕ → List ℕ → Text
-lines p copies R S [] = []
-lines p copies R S (k ∷ ks) = line p copies R S k ++ lines p copies R S ks
+lines p copies R S = flat_map (line p copies R S)
 
 -- the answer: stores 0 and up are the members, and the last of them leaves
 abbrev pub answer_text : Question → Text

@@ -25,6 +25,18 @@ pub enum Reason {
     NotOneToSixteen,
 }
 
+impl Reason {
+    // The fault of the word at a place that is wrong for this reason.
+    pub(crate) fn at(self, place: usize) -> WordFault
+        ensures { (result.place ≡ place) × (result.reason ≡ self) }
+    {
+        WordFault {
+            place,
+            reason: self,
+        }
+    }
+}
+
 // The first word that is wrong, by its place from 0.
 #[derive(Clone, Copy)]
 pub struct WordFault {

@@ -6,25 +6,21 @@
 // with a trailer behind them, and opened again from one, wherever that was carried.
 #![tactic(auto)]
 
-ghost use Rattle.std.specs.Prelude.{◌≡◌, ◌+◌, ◌-◌, ◌*◌, ◌<◌, ◌≤◌, true, false, [], length, Some};
-ghost use Rattle.pairs.specs.Pairs.{find, has, next_key, nearer};
-ghost use Rattle.store.specs.Outcomes.{put_answer};
-ghost use Rattle.codec.specs.Words.{over};
-ghost use Rattle.log_theory.specs.Tape.{tape, slot_bytes, record_at, records, held, pairs_of, legal, all_legal, slots, allowed, Standing};
-ghost use Rattle.log_theory.specs.Moves.{recurs, superseded, stays, superseded_count, compacted, roomed, appended, put_tape, remove_tape};
+ghost use Rattle.std.specs.Prelude.{◌≡◌, ◌+◌, ◌*◌, ◌<◌, ◌≤◌, true, false, not, ◌&&◌, [], length, ◌==◌, nat_le};
+ghost use Rattle.std.specs.List.{find as first};
+ghost use Rattle.pairs.specs.Pairs.{find};
+ghost use Rattle.codec.specs.Records.{decoded};
+ghost use Rattle.log_theory.specs.Tape.{tape, records, held, own, put_record, removal, pairs_of, legal, all_legal, slots, allowed, Standing};
+ghost use Rattle.log_theory.specs.Rows.{row, in_row, newest_first, any_has, superseded_in, stays_in, superseded_total, staying_total, least_held};
+ghost use Rattle.log_theory.specs.Moves.{superseded_count, compacted, roomed, appended, put_tape, remove_tape};
 ghost use Rattle.log_theory.specs.Image.{image_length, closed_bytes, trailer_at, is_image, opened_cap, fresh_answer, image_answer};
 ghost use Rattle.log_theory.specs.Laws.{LegalImage, OpensAnywhere};
 ghost use Rattle.log_store.specs.Laws.{log_lawful};
 
-use codec::{Record, Trailer};
+use codec::{Kind, Record, Trailer, write_over};
 use store::fault::StoreFault;
 use store::value::Value;
 use store::{Put, Store};
-
-// The kinds of records.
-const PUT: u64 = 1;
-
-const REMOVAL: u64 = 2;
 
 // The greatest cap.
 const GREATEST_CAP: u64 = 4095;
@@ -33,161 +29,118 @@ const GREATEST_CAP: u64 = 4095;
 #[derive(Drop)]
 pub struct Log<'a> {
     bytes: &'a mut [u8],
+    // beside the bytes, which are lent and have free slots behind the records: fixed memory, no heap
     used: usize,
     cap: usize,
 }
 
-// The bytes of a slot.
-fn slot(bytes: &[u8], i: usize) -> [u8; 32]
-    requires { 32 * i + 32 ≤ length bytes.now }
-    ensures { result ≡ slot_bytes bytes.now i }
+// The first slots of some bytes, which a log and a check of an image lend alike: the two share no struct.
+#[tactic(auto, using(log_theory::proofs::Rows::take_row, log_theory::proofs::Rows::newest_is_records))]
+fn row(bytes: &[u8], used: usize) -> &[[u8; 32]]
+    requires { 32 * used ≤ length bytes.now }
+    ensures slots { result.now ≡ row bytes.now used }
+    ensures records { newest_first result.now ≡ records bytes.now used }
 {
-    let mut part = [0; 32];
-    part.copy_from_slice(&bytes[32 * i..32 * i + 32]);
-    part
-}
-
-// Writes the bytes of a slot.
-fn set_slot(bytes: &mut [u8], i: usize, part: [u8; 32])
-    requires { 32 * i + 32 ≤ length bytes.old }
-    ensures { bytes.new ≡ over bytes.old (32 * i) part }
-{
-    bytes[32 * i..32 * i + 32].copy_from_slice(&part);
+    &bytes.as_chunks::<32>().0[..used]
 }
 
 // The record in a slot.
-fn read(bytes: &[u8], i: usize) -> Record
-    requires { 32 * i + 32 ≤ length bytes.now }
-    ensures { result ≡ record_at bytes.now i }
+fn read(slot: &[u8; 32]) -> Record
+    ensures { result ≡ decoded slot.now }
 {
-    Record::from_bytes(slot(bytes, i))
+    Record::from_bytes(*slot)
 }
 
-// Whether one of the slots from `from` on, below `to`, has the key.
-fn comes_again(bytes: &[u8], from: usize, to: usize, key: u64) -> bool
-    requires { (32 * to ≤ length bytes.now) × (from ≤ to) }
-    ensures { result ≡ recurs bytes.now from (to - from) key }
+// Whether one of some slots has the key.
+fn any_has(slots: &[[u8; 32]], key: u64) -> bool
+    ensures { result ≡ any_has (in_row slots.now) key }
 {
-    for i in from..to {
-        if read(bytes, i).key == key {
-            return true;
-        }
-    }
-    false
+    slots.iter().map(read).any(|rec| rec.key == key)
 }
 
-// Whether a later slot, below `used`, has the key of slot `i`.
-fn is_superseded(bytes: &[u8], used: usize, i: usize) -> bool
-    requires { (32 * used ≤ length bytes.now) × (i < used) }
-    ensures { result ≡ superseded bytes.now used i }
+// Whether a later slot has the key of slot `i`.
+fn is_superseded(slots: &[[u8; 32]], i: usize) -> bool
+    requires { i < length slots.now }
+    ensures { result ≡ superseded_in slots.now i }
 {
-    comes_again(bytes, i + 1, used, read(bytes, i).key)
+    any_has(&slots[i + 1..], read(&slots[i]).key)
 }
 
 // Whether slot `i` stays in a compaction: a put that is the last record of its key.
-fn is_last_put(bytes: &[u8], used: usize, i: usize) -> bool
-    requires { (32 * used ≤ length bytes.now) × (i < used) }
-    ensures { result ≡ stays bytes.now used i }
+fn is_last_put(slots: &[[u8; 32]], i: usize) -> bool
+    requires { i < length slots.now }
+    ensures { result ≡ stays_in slots.now i }
 {
-    read(bytes, i).kind == PUT && !is_superseded(bytes, used, i)
+    read(&slots[i]).kind == Kind::Put as u64 && !is_superseded(slots, i)
 }
 
-// How many of the first `used` slots are superseded.
-fn count_superseded(bytes: &[u8], used: usize) -> usize
-    requires { 32 * used ≤ length bytes.now }
-    ensures { result ≡ superseded_count bytes.now used used }
+// How many of some slots are superseded.
+fn count_superseded(slots: &[[u8; 32]]) -> usize
+    ensures { result ≡ superseded_total slots.now }
 {
-    let mut n: usize = 0;
-    for i in 0..used {
-        if is_superseded(bytes, used, i) {
-            n += 1;
-        }
-    }
-    n
+    (0..slots.len())
+        .filter(|i| is_superseded(slots, *i))
+        .count()
 }
 
-// Moves the slots that stay to the front, in order, and tells how many they are.
+// How many keys the records in some slots leave live: one for each slot that stays.
+fn count_live(slots: &[[u8; 32]]) -> usize
+    ensures { result ≡ staying_total slots.now }
+{
+    (0..slots.len()).filter(|i| is_last_put(slots, *i)).count()
+}
+
+// Moves the slots that stay to the front, in order, and tells how many they are. Like `make_room` and `seal` it takes
+// the bytes and `used` apart: a method of `Log` would have to say of the cap and the lent slice that they stay.
+#[tactic(auto, using(log_theory::proofs::Packs::stay_count_most))]
 fn compact(bytes: &mut [u8], used: usize) -> usize
     requires { 32 * used ≤ length bytes.old }
     ensures { tape bytes.new result ≡ compacted (tape bytes.old used) }
 {
     let mut front: usize = 0;
+    // by index, in place: the loop writes into the bytes that it reads, and no iterator may lend them then
     for i in 0..used {
-        if is_last_put(bytes, used, i) {
-            let part = slot(bytes, i);
-            set_slot(bytes, front, part);
+        if is_last_put(row(bytes, used), i) {
+            bytes.copy_within(32 * i..32 * i + 32, 32 * front);
             front += 1;
         }
     }
     front
 }
 
-// What the first `used` records say of a key: the newest that has it decides.
-fn look_up(bytes: &[u8], used: usize, key: u64) -> Option<Value>
-    requires { 32 * used ≤ length bytes.now }
-    ensures { result ≡ find (held (records bytes.now used)) key }
+// What a record says of its key: a put its value, any other that there is none.
+fn own(rec: Record) -> Option<Value>
+    ensures { result ≡ own rec }
 {
-    let mut i = used;
-    while i > 0 {
-        i -= 1;
-        let newest = read(bytes, i);
-        if newest.key == key {
-            return if newest.kind == PUT {
-                Some(Value {
-                    a: newest.a,
-                    b: newest.b,
-                })
-            } else {
-                None
-            };
-        }
-    }
-    None
+    (rec.kind == Kind::Put as u64).then_some(Value { a: rec.a, b: rec.b })
 }
 
-// How many keys the first `used` records leave live.
-fn count_live(bytes: &[u8], used: usize) -> usize
-    requires { 32 * used ≤ length bytes.now }
-    ensures { result ≡ length (held (records bytes.now used)) }
+// The newest record, of those in some slots, that has the key.
+fn newest_of(slots: &[[u8; 32]], key: u64) -> Option<Record>
+    ensures { result ≡ first (λ r. r.key == key) (newest_first slots.now) }
 {
-    let mut n: usize = 0;
-    for i in 0..used {
-        let rec = read(bytes, i);
-        let was = look_up(bytes, i, rec.key).is_some();
-        if rec.kind == PUT {
-            if !was {
-                n += 1;
-            }
-        } else if was {
-            n -= 1;
-        }
-    }
-    n
+    slots.iter().rev().map(read).find(|rec| rec.key == key)
 }
 
-// The smaller of a key and another that may be missing.
-fn nearer_of(best: Option<u64>, key: u64) -> Option<u64>
-    ensures { result ≡ nearer best (Some key) }
+// What the records in some slots say of a key: the newest that has it decides.
+#[tactic(auto, using(log_theory::proofs::Rows::found))]
+fn look_up(slots: &[[u8; 32]], key: u64) -> Option<Value>
+    ensures { result ≡ find (held (newest_first slots.now)) key }
 {
-    match best {
-        Some(b) => Some(b.min(key)),
-        None => Some(key),
-    }
+    newest_of(slots, key).and_then(own)
 }
 
-// The smallest key that the first `used` records leave live and that is not below `from`.
-fn least_key(bytes: &[u8], used: usize, from: u64) -> Option<u64>
-    requires { 32 * used ≤ length bytes.now }
-    ensures { result ≡ next_key (held (records bytes.now used)) from }
+// The smallest key that the records in some slots leave live and that is not below `from`.
+fn least_key(slots: &[[u8; 32]], from: u64) -> Option<u64>
+    ensures { result ≡ least_held (held (newest_first slots.now)) (newest_first slots.now) from }
 {
-    let mut best: Option<u64> = None;
-    for i in 0..used {
-        let key = read(bytes, i).key;
-        if key >= from && look_up(bytes, used, key).is_some() {
-            best = nearer_of(best, key);
-        }
-    }
-    best
+    slots
+        .iter()
+        .rev()
+        .map(read)
+        .map(|rec| rec.key)
+        .filter(|key| *key >= from && look_up(slots, *key).is_some())
+        .min()
 }
 
 // How many slots a slice of this length has.
@@ -198,8 +151,8 @@ fn slots_in(len: usize) -> usize
 }
 
 // The first free slot. Where there is none the log is compacted, which frees one.
-fn make_room(bytes: &mut [u8], used: usize, cap: usize) -> usize
-    requires { Standing (tape bytes.old used) cap }
+fn make_room(bytes: &mut [u8], used: usize) -> usize
+    requires { 32 * used ≤ length bytes.old }
     ensures { tape bytes.new result ≡ roomed (tape bytes.old used) }
 {
     if used < slots_in(bytes.len()) {
@@ -208,88 +161,46 @@ fn make_room(bytes: &mut [u8], used: usize, cap: usize) -> usize
     compact(bytes, used)
 }
 
-// Writes a record into the first free slot, and tells how many slots are in use then.
-fn append(bytes: &mut [u8], used: usize, cap: usize, rec: Record) -> usize
-    requires { Standing (tape bytes.old used) cap }
-    ensures { tape bytes.new result ≡ appended (tape bytes.old used) rec }
+// The record of a put.
+fn put_record(key: u64, value: Value) -> Record
+    ensures { result ≡ put_record key value }
 {
-    let free = make_room(bytes, used, cap);
-    set_slot(bytes, free, rec.to_bytes());
-    free + 1
-}
-
-// Appends a put, unless it is refused.
-fn write_put(
-    bytes: &mut [u8],
-    used: &mut usize,
-    cap: usize,
-    key: u64,
-    value: Value,
-) -> Result<Put, StoreFault>
-    requires { Standing (tape bytes.old used.old) cap }
-    ensures answers_put { result ≡ put_answer (pairs_of (tape bytes.old used.old)) cap key }
-    ensures tape_follows_put { tape bytes.new used.new ≡ put_tape (tape bytes.old used.old) cap key value }
-{
-    let rec = Record {
+    Record {
         key,
         a: value.a,
         b: value.b,
-        kind: PUT,
-    };
-    if look_up(bytes, *used, key).is_some() {
-        *used = append(bytes, *used, cap, rec);
-        return Ok(Put::Replaced);
+        kind: Kind::Put as u64,
     }
-    if count_live(bytes, *used) >= cap {
-        return Err(StoreFault::Full);
-    }
-    *used = append(bytes, *used, cap, rec);
-    Ok(Put::New)
 }
 
-// Appends a removal, if the key is there, and tells whether it was.
-fn write_removal(bytes: &mut [u8], used: &mut usize, cap: usize, key: u64) -> bool
-    requires { Standing (tape bytes.old used.old) cap }
-    ensures answers_remove { result ≡ has (pairs_of (tape bytes.old used.old)) key }
-    ensures tape_follows_remove { tape bytes.new used.new ≡ remove_tape (tape bytes.old used.old) key }
+// The record of a removal.
+fn removal(key: u64) -> Record
+    ensures { result ≡ removal key }
 {
-    if look_up(bytes, *used, key).is_none() {
-        return false;
+    Record {
+        key,
+        a: 0,
+        b: 0,
+        kind: Kind::Removal as u64,
     }
-    *used = append(
-        bytes,
-        *used,
-        cap,
-        Record {
-            key,
-            a: 0,
-            b: 0,
-            kind: REMOVAL,
-        },
-    );
-    true
 }
 
 // Whether a record is a put, or a removal without a value.
 fn is_legal(rec: Record) -> bool
     ensures { result ≡ legal rec }
 {
-    rec.kind == PUT || (rec.kind == REMOVAL && rec.a == 0 && rec.b == 0)
+    match Kind::try_from(rec.kind) {
+        Ok(Kind::Put) => true,
+        Ok(Kind::Removal) => rec.a == 0 && rec.b == 0,
+        Err(_) => false,
+    }
 }
 
-// Whether the first `used` records are legal.
-fn are_legal(bytes: &[u8], used: usize) -> bool
-    requires { 32 * used ≤ length bytes.now }
-    ensures { result ≡ all_legal (records bytes.now used) }
+// Whether the records in some slots are legal.
+fn are_legal(slots: &[[u8; 32]]) -> bool
+    ensures { result ≡ all_legal (newest_first slots.now) }
 {
-    let mut i = used;
-    while i > 0 {
-        i -= 1;
-        if !is_legal(read(bytes, i)) {
-            return false;
-        }
-    }
-    true
+    slots.iter().rev().map(read).all(is_legal)
 }
 
 // Whether a log on a slice of this length may have this cap.
@@ -304,9 +215,7 @@ fn trailer(bytes: &[u8], n: usize) -> Trailer
     requires { (16 ≤ n) × (n ≤ length bytes.now) }
     ensures { result ≡ trailer_at bytes.now n }
 {
-    let mut part = [0; 16];
-    part.copy_from_slice(&bytes[n - 16..n]);
-    Trailer::from_bytes(part)
+    Trailer::from_bytes(bytes[n - 16..n].as_chunks::<16>().0[0])
 }
 
 // Writes the trailer behind the records in use, and tells the image's length.
@@ -320,11 +229,13 @@ fn seal(bytes: &mut [u8], used: usize, cap: usize) -> usize
         distance: end as u64,
         cap: cap as u64,
     };
-    bytes[end..end + 16].copy_from_slice(&trailer.to_bytes());
+    write_over(bytes, end, &trailer.to_bytes());
     end + 16
 }
 
-// Whether the first `n` bytes are an image.
+// Whether the first `n` bytes are an image. Here and where a log is opened `n` stands beside the bytes, since an image's
+// limits speak of the whole slice too.
+#[tactic(auto, using(log_theory::proofs::Rows::live_row_total))]
 fn holds_image(bytes: &[u8], n: usize) -> bool
     ensures { result ≡ is_image bytes.now n }
 {
@@ -338,14 +249,42 @@ fn holds_image(bytes: &[u8], n: usize) -> bool
     if !is_allowed(bytes.len(), cap) {
         return false;
     }
-    let used = (n - 16) / 32;
-    if !are_legal(bytes, used) {
-        return false;
-    }
-    count_live(bytes, used) as u64 <= cap
+    let slots = row(bytes, (n - 16) / 32);
+    are_legal(slots) && count_live(slots) as u64 <= cap
 }
 
 impl<'a> Log<'a> {
+    // The slots in use. That the log stands is the one premise of what it does, so each contract says it.
+    fn slots(&self) -> &[[u8; 32]]
+        requires standing { Standing (tape self.now.bytes.now self.now.used) self.now.cap }
+        ensures slots { result.now ≡ row self.now.bytes.now self.now.used }
+        ensures records { newest_first result.now ≡ records self.now.bytes.now self.now.used }
+    {
+        row(self.bytes, self.used)
+    }
+
+    // Whether a put is refused, given whether its key is present: refused where the key is new and the log full.
+    #[tactic(auto, using(log_theory::proofs::Rows::live_row_total))]
+    fn refuses(&self, present: bool) -> bool
+        requires standing { Standing (tape self.now.bytes.now self.now.used) self.now.cap }
+        ensures { result ≡ (not present && nat_le self.now.cap (length (pairs_of (tape self.now.bytes.now self.now.used)))) }
+    {
+        !present && count_live(self.slots()) >= self.cap
+    }
+
+    // Writes a record into the first free slot.
+    fn append(&mut self, rec: Record)
+        requires standing { Standing (tape self.old.bytes.now self.old.used) self.old.cap }
+        ensures appends { tape self.new.bytes.now self.new.used ≡ appended (tape self.old.bytes.now self.old.used) rec }
+        ensures cap_stays { self.new.cap ≡ self.old.cap }
+        ensures same_bytes { self.new.bytes.ghost_name ≡ self.old.bytes.ghost_name }
+    {
+        let bytes = &mut *self.bytes;
+        let free = make_room(bytes, self.used);
+        write_over(bytes, 32 * free, &rec.to_bytes());
+        self.used = free + 1;
+    }
+
     // Whether a fresh log of this cap may be made on these bytes: a cap of 1 to 4,095, and one slot
     // more than the cap, at least.
     pub fn check(bytes: &[u8], cap: usize) -> Result<(), StoreFault>
@@ -359,6 +298,7 @@ impl<'a> Log<'a> {
     }
 
     // A log with no record in use. It stands exactly where the check accepts.
+    #[tactic(auto, using(log_theory::proofs::Images::fresh_stands))]
     pub fn make(bytes: &'a mut [u8], cap: usize) -> Self
         ensures bytes_stay { result.bytes.now ≡ bytes.old }
         ensures no_record_in_use { result.used ≡ 0 }
@@ -387,7 +327,7 @@ impl<'a> Log<'a> {
     }
 
     // The log whose image the first `n` bytes are, whoever wrote it. It stands exactly where the
-    // check accepts: elsewhere its cap is 0, which no standing log has.
+    // check accepts: elsewhere its cap is 0, which no standing log has, since a making is never refused.
     pub fn open(bytes: &'a mut [u8], n: usize) -> Self
         ensures bytes_stay { result.bytes.now ≡ bytes.old }
         ensures records_in_use { result.used ≡ slots n }
@@ -411,11 +351,12 @@ impl<'a> Log<'a> {
     }
 
     // How many records are superseded: a later record has their key.
+    #[tactic(auto, using(log_theory::proofs::Rows::superseded_row_total))]
     pub fn superseded(&self) -> usize
         requires standing { Standing (tape self.now.bytes.now self.now.used) self.now.cap }
         ensures { result ≡ superseded_count self.now.bytes.now self.now.used self.now.used }
     {
-        count_superseded(self.bytes, self.used)
+        count_superseded(self.slots())
     }
 
     // Writes the trailer behind the records in use, and tells the image's length. The image, carried
@@ -447,31 +388,34 @@ impl<'a> Store for Log<'a> {
     ghost struck = { λ t k u. (tape u.bytes.now u.used ≡ remove_tape (tape t.bytes.now t.used) k) × (u.bytes.ghost_name ≡ t.bytes.ghost_name) };
 
     fn get(&self, key: u64) -> Option<Value> {
-        look_up(self.bytes, self.used, key)
+        look_up(self.slots(), key)
     }
 
     fn put(&mut self, key: u64, value: Value) -> Result<Put, StoreFault> {
-        let cap = self.cap;
-        let mut used = self.used;
-        let answer = write_put(self.bytes, &mut used, cap, key, value);
-        self.used = used;
-        answer
+        let present = look_up(self.slots(), key).is_some();
+        if self.refuses(present) {
+            return Err(StoreFault::Full);
+        }
+        self.append(put_record(key, value));
+        Ok(if present { Put::Replaced } else { Put::New })
     }
 
     fn remove(&mut self, key: u64) -> bool {
-        let cap = self.cap;
-        let mut used = self.used;
-        let answer = write_removal(self.bytes, &mut used, cap, key);
-        self.used = used;
-        answer
+        let present = look_up(self.slots(), key).is_some();
+        if present {
+            self.append(removal(key));
+        }
+        present
     }
 
+    #[tactic(auto, using(log_theory::proofs::Nexts::least_is_next))]
     fn next(&self, key: u64) -> Option<u64> {
-        least_key(self.bytes, self.used, key)
+        least_key(self.slots(), key)
     }
 
+    #[tactic(auto, using(log_theory::proofs::Rows::live_row_total))]
     fn count(&self) -> usize {
-        count_live(self.bytes, self.used)
+        count_live(self.slots())
     }
 
     fn cap(&self) -> usize {

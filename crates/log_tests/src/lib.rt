@@ -9,48 +9,60 @@ mod tests {
     use codec::Record;
     use log_store::Log;
     use std::alloc::{AllocError, Global};
+    use std::collections::BTreeMap;
     use std::process::Abort;
     use std::test::Fail;
     use store::fault::StoreFault;
     use store::value::Value;
     use store::{Put, Store};
 
-    // The cap and the live puts of an image.
+    // The cap and the live pairs of an image.
     #[derive(Drop)]
     struct Model {
         cap: u64,
-        live: Vec<Record>,
+        live: BTreeMap<u64, Value>,
     }
 
+    // The word at a place.
     fn word(bytes: &[u8], at: usize) -> u64 {
-        let mut x: u64 = 0;
-        let mut place: u64 = 1;
-        for byte in bytes.iter().skip(at).take(8) {
-            x = x.wrapping_add(place.wrapping_mul(*byte as u64));
-            place = place.wrapping_mul(256);
-        }
-        x
+        let chunk = bytes.get(at..).and_then(|rest| rest.first_chunk());
+        chunk.map_or(0, |word| u64::from_le_bytes(*word))
     }
 
-    // The live puts after one record more.
-    fn after(heap: Global, live: &Vec<Record>, rec: Record) -> Result<Vec<Record>, AllocError> {
-        let mut next = Vec::new(heap);
-        for r in live.iter() {
-            if r.key != rec.key {
-                next.push(*r)?;
-            }
-        }
-        if rec.kind == 1 {
-            next.push(rec)?;
-        }
-        Ok(next)
-    }
-
+    // The numbers of the format, on purpose: they are worked out once more here.
     fn is_legal(rec: Record) -> bool {
         rec.kind == 1 || (rec.kind == 2 && rec.a == 0 && rec.b == 0)
     }
 
-    // What the first n bytes say, or none if they are no image.
+    // What a slot says.
+    fn record(slot: &[u8]) -> Record {
+        Record {
+            key: word(slot, 0),
+            a: word(slot, 8),
+            b: word(slot, 16),
+            kind: word(slot, 24),
+        }
+    }
+
+    // The pairs that slots leave, the oldest first, or none if one of them is not legal.
+    fn pairs(heap: Global, slots: &[u8]) -> Result<Option<BTreeMap<u64, Value>>, AllocError> {
+        let mut live = BTreeMap::new(heap);
+        for slot in slots.chunks_exact(32) {
+            let rec = record(slot);
+            if !is_legal(rec) {
+                return Ok(None);
+            }
+            if rec.kind == 1 {
+                live.insert(rec.key, Value { a: rec.a, b: rec.b })?;
+            } else {
+                live.remove(&rec.key);
+            }
+        }
+        Ok(Some(live))
+    }
+
+    // What the first n bytes say, or none if they are no image. Room for the cap lies behind them: n stands beside the
+    // bytes, as it does for the log.
     fn reading(heap: Global, bytes: &[u8], n: usize) -> Result<Option<Model>, AllocError> {
         if n < 16 || n > bytes.len() {
             return Ok(None);
@@ -63,23 +75,11 @@ mod tests {
         if word(bytes, n - 16) != (n - 16) as u64 || (n - 16) % 32 != 0 {
             return Ok(None);
         }
-        let mut live = Vec::new(heap);
-        for i in 0..(n - 16) / 32 {
-            let rec = Record {
-                key: word(bytes, 32 * i),
-                a: word(bytes, 32 * i + 8),
-                b: word(bytes, 32 * i + 16),
-                kind: word(bytes, 32 * i + 24),
-            };
-            if !is_legal(rec) {
-                return Ok(None);
-            }
-            live = after(heap, &live, rec)?;
-        }
-        if live.len() as u64 > cap {
-            return Ok(None);
-        }
-        Ok(Some(Model { cap, live }))
+        let live = pairs(heap, &bytes[..n - 16])?;
+        Ok(
+            live.filter(|live| live.len() as u64 <= cap)
+                .map(|live| Model { cap, live }),
+        )
     }
 
     // Whether a log has this cap and these pairs, and no others.
@@ -89,8 +89,8 @@ mod tests {
         if log.cap() as u64 != model.cap || log.count() != model.live.len() {
             return false;
         }
-        for rec in model.live.iter() {
-            if log.get(rec.key) != Some(Value { a: rec.a, b: rec.b }) {
+        for (key, value) in &model.live {
+            if log.get(*key) != Some(*value) {
                 return false;
             }
         }
@@ -101,15 +101,10 @@ mod tests {
     // from them then has what its records say.
     fn agrees(heap: Global, bytes: &mut [u8], n: usize) -> Result<bool, AllocError> {
         let expected = reading(heap, bytes, n)?;
-        match Log::check_image(bytes, n) {
-            Ok(()) => {
-                let log = Log::open(bytes, n);
-                match expected {
-                    Some(m) => Ok(has_all(&log, &m)),
-                    None => Ok(false),
-                }
-            }
-            Err(fault) => Ok(fault == StoreFault::BadImage && expected.is_none()),
+        match (Log::check_image(bytes, n), expected) {
+            (Ok(()), Some(model)) => Ok(has_all(&Log::open(bytes, n), &model)),
+            (Err(fault), None) => Ok(fault == StoreFault::BadImage),
+            (_, _) => Ok(false),
         }
     }
 
@@ -160,6 +155,7 @@ mod tests {
     #[test]
     fn every_changed_byte_is_refused_or_read(rt: HostRuntime) -> Result<(), Fail> {
         let masks = [1u8, 2, 3, 6, 8, 128, 255];
+        // Each place has a fresh copy, of which this one byte is changed.
         for i in 0..144 {
             for mask in masks.iter() {
                 let mut bytes = worked();
@@ -172,6 +168,7 @@ mod tests {
 
     #[test]
     fn every_other_length_is_refused(rt: HostRuntime) -> Result<(), Fail> {
+        // Every length of the slice, and lengths past it.
         for n in 0..200 {
             let mut bytes = worked();
             assert_eq!(rt; Log::check_image(&bytes, n).is_ok(), n == 144);

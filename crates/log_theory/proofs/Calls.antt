@@ -1,19 +1,17 @@
 -- What a put and a removal leave: a standing log, and the pairs that the store's meaning asks for.
-use Rattle.std.proofs.Common.{◌≡◌, ℕ, zero, suc, ◌+◌, ◌*◌, ◌^◌, ◌<◌, ◌≤◌, Bool, true, false, cond, not, ◌&&◌, ◌||◌, ltb, leb, List, ◌∷◌, length, drop, is_some, Ok, Err, Option, sym, refl, ap, ◌∙◌, subst, ⊎_elim, arith}
-use Rattle.std.proofs.lemmas.Bool.{cond-true, cond-false, cond_both, cases_Bool, and_parts, leb-true, le-leb, lt-leb, ltb-true}
+use Rattle.std.proofs.Common.{◌≡◌, ℕ, zero, suc, ◌+◌, ◌*◌, ◌^◌, ◌<◌, ◌≤◌, Bool, true, false, cond, ◌&&◌, ◌||◌, ltb, leb, List, ◌∷◌, length, drop, sym, refl, ap, ◌∙◌, subst, ⊎_elim, arith}
+use Rattle.std.proofs.lemmas.Bool.{cond-true, cond-false, cond_both, cases_Bool, and_parts, leb-true, ltb-true}
 use Rattle.std.proofs.lemmas.Bool.Decides.{nat_tests}
-use Rattle.pairs.specs.Pairs.{Pair, find, has, insert, erase}
+use Rattle.pairs.specs.Pairs.{has, insert, erase}
 use Rattle.pairs.proofs.Maps.{has_none, erase_absent}
-use Rattle.store.specs.declared.Put.TheVariants.{New, Replaced}
-use Rattle.store.specs.declared.fault.StoreFault.TheVariants.{Full}
 use Rattle.store.specs.declared.value.Value.{Value}
 use Rattle.store.specs.Meaning.{FitsWords, Lawful}
-use Rattle.store.specs.Outcomes.{refuses, put_answer, put_pairs}
+use Rattle.store.specs.Outcomes.{refuses, put_pairs}
 use Rattle.codec.specs.declared.Record.{Record}
 use Rattle.codec.specs.Records.{encoded, FitsRecord}
 use Rattle.codec.proofs.Overs.{length_over, drop_over}
 use Rattle.codec.proofs.Digits.{length_encoded}
-use Rattle.log_theory.specs.Tape.{Tape, record_at, records, is_put, value_of, put_record, removal, held, pairs_of, legal, all_legal, slots, greatest_cap, allowed, AllFit, Standing}
+use Rattle.log_theory.specs.Tape.{Tape, tape, record_at, records, is_put, value_of, put_record, removal, held, pairs_of, legal, all_legal, slots, greatest_cap, allowed, AllFit, Standing}
 use Rattle.log_theory.specs.Moves.{stays, packed, stay_count, stayers, compacted, roomed, appended, put_tape, remove_tape}
 use Rattle.log_theory.proofs.Slots.{records_more, records_front, record_over}
 use Rattle.log_theory.proofs.Holds.{held_ascends, found_fits}
@@ -93,6 +91,15 @@ roomy t c s =
       words_fit = subst AllFit (sym (records_packed bs n n h)) (stayers_fit bs n n s.words_fit);
     })
 
+-- there is room for a record in the first free slot
+pub room_enough : (t : Tape) (c : ℕ) (bs : List ℕ) (n : ℕ) → Standing t c → tape bs n ≡ roomed t → 32 * n + 32 ≤ length bs
+room_enough t c bs n s e =
+    let r = subst (Roomy t) (sym e) (roomy t c s) in
+    let f = r.free in
+    let l = r.long in
+    let w = slots_end (length t.bytes) (omega arith) in
+    omega arith
+
 -- an appended record decides its key
 pub appended_stands : (t : Tape) (c : ℕ) (r : Record) → Standing t c → FitsRecord r → legal r ≡ true → length (held (r ∷ records t.bytes t.used)) ≤ c
     → Standing (appended t r) c × (pairs_of (appended t r) ≡ held (r ∷ records t.bytes t.used))
@@ -144,23 +151,6 @@ remove_stands t c k s f = ⊎_elim
     (λ (e : has (pairs_of t) k ≡ false).
     subst (λ u. Standing u c × (pairs_of u ≡ erase (pairs_of t) k)) (sym (cond-false _ _ _ e)) (s, sym (erase_absent (pairs_of t) k (has_none (pairs_of t) k e))))
     (cases_Bool (has (pairs_of t) k))
-
--- when a put is refused, and what it answers
-pub refuses_there : (ps : List (Pair Value)) (c k : ℕ) → has ps k ≡ true → refuses ps c k ≡ false
-refuses_there ps c k e = ap (λ b. not b && leb c (length ps)) e
-
-pub refuses_full : (ps : List (Pair Value)) (c k : ℕ) → has ps k ≡ false → c ≤ length ps → refuses ps c k ≡ true
-refuses_full ps c k e l = ap (λ b. not b && leb c (length ps)) e ∙ le-leb c (length ps) l
-
-pub refuses_room : (ps : List (Pair Value)) (c k : ℕ) → has ps k ≡ false → length ps < c → refuses ps c k ≡ false
-refuses_room ps c k e l = ap (λ b. not b && leb c (length ps)) e ∙ lt-leb c (length ps) l
-
-pub answer_is : (ps : List (Pair Value)) (c k : ℕ) (b h : Bool) → refuses ps c k ≡ b → has ps k ≡ h → cond b (Err Full) (Ok (cond h Replaced New)) ≡ put_answer ps c k
-answer_is ps c k b h e f = sym (ap (λ z. cond z (Err Full) (Ok (cond (has ps k) Replaced New))) e ∙ ap (λ z. cond b (Err Full) (Ok (cond z Replaced New))) f)
-
--- what a look-up tells of a key's presence
-pub has_is : (ps : List (Pair Value)) (k : ℕ) (o : Option Value) (b x : Bool) → o ≡ find ps k → b ≡ is_some o → b ≡ x → has ps k ≡ x
-has_is ps k o b x e f g = ap is_some (sym e) ∙ sym f ∙ g
 
 -- nothing is written behind the records in use
 appended_behind : (t : Tape) (c : ℕ) (r : Record) → Standing t c → drop (32 * (appended t r).used) (appended t r).bytes ≡ drop (32 * (appended t r).used) t.bytes

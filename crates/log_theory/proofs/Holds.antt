@@ -1,5 +1,5 @@
 -- What records hold: the newest record of a key decides.
-use Rattle.std.proofs.Common.{◌≡◌, ℕ, zero, suc, ◌+◌, ◌-◌, ◌<◌, ◌≤◌, true, false, cond, ◌&&◌, eqb, List, [], ◌∷◌, Some, None, sym, refl, ap, ◌∙◌, subst, ⊎_elim, arith}
+use Rattle.std.proofs.Common.{◌≡◌, ℕ, zero, suc, ◌+◌, ◌<◌, ◌≤◌, true, false, cond, eqb, List, [], ◌∷◌, Some, None, sym, refl, ap, ◌∙◌, subst, ⊎_elim, arith}
 use Rattle.std.proofs.lemmas.Bool.{cond_both, cond-true, cond-false, cases_Bool, cases_lt, eq-eqb, ne_eqb, eqb-true}
 use Rattle.pairs.specs.Pairs.{find, Ascending}
 use Rattle.pairs.proofs.Maps.{find_insert, find_erase, insert_ascends, erase_ascends, none_some, some_same}
@@ -7,9 +7,8 @@ use Rattle.store.specs.declared.value.Value.{Value}
 use Rattle.store.specs.Meaning.{FitsWords}
 use Rattle.codec.specs.declared.Record.{Record}
 use Rattle.codec.specs.Records.{FitsRecord}
-use Rattle.log_theory.specs.Tape.{record_at, records, is_put, value_of, own, held, legal, all_legal, AllFit}
+use Rattle.log_theory.specs.Tape.{record_at, records, is_put, value_of, own, held, AllFit}
 use Rattle.log_theory.specs.Laws.{NoneLater}
-use Rattle.log_theory.proofs.Slots.{records_more}
 
 pub held_ascends : (rs : List Record) → Ascending (held rs)
 held_ascends [] = tt
@@ -26,24 +25,6 @@ find_held r rs j =
     ap (λ z. find z j) (cond-false (is_put r) _ _ e) ∙ find_erase (held rs) r.key j (held_ascends rs)
     ∙ ap (λ z. cond (eqb r.key j) z (find (held rs) j)) (sym (cond-false (is_put r) (Some (value_of r)) None e)))
     (cases_Bool (is_put r))
-
--- a walk from the newest record down: it meets the key, or goes on
-module _ (bs : List ℕ) (i k : ℕ) (r : Record) (l : 0 < i) (e : r ≡ record_at bs (i - 1)) where
-  step : find (held (records bs i)) k ≡ cond (eqb r.key k) (own r) (find (held (records bs (i - 1))) k)
-  step =
-      ap (λ m. find (held (records bs m)) k) (let z : i ≡ i - 1 + 1 = omega arith in z) ∙ ap (λ z. find (held z) k) (records_more bs (i - 1))
-      ∙ find_held (record_at bs (i - 1)) (records bs (i - 1)) k ∙ ap (λ (x : Record). cond (eqb x.key k) (own x) (find (held (records bs (i - 1))) k)) (sym e)
-
-  pub walk_met : r.key ≡ k → own r ≡ find (held (records bs i)) k
-  walk_met f = sym (step ∙ cond-true _ _ _ (eq-eqb r.key k f))
-
-  pub walk_on : (r.key ≡ k → ⊥) → find (held (records bs (i - 1))) k ≡ find (held (records bs i)) k
-  walk_on f = sym (step ∙ cond-false _ _ _ (ne_eqb r.key k f))
-
--- the same walk, for legal records
-pub legal_step : (bs : List ℕ) (i : ℕ) (r : Record) → 0 < i → r ≡ record_at bs (i - 1) → all_legal (records bs i) ≡ (legal r && all_legal (records bs (i - 1)))
-legal_step bs i r l e =
-    ap (λ m. all_legal (records bs m)) (let z : i ≡ i - 1 + 1 = omega arith in z) ∙ ap all_legal (records_more bs (i - 1)) ∙ ap (λ (x : Record). legal x && all_legal (records bs (i - 1))) (sym e)
 
 pub last_decides : (bs : List ℕ) (n i : ℕ) → i < n → NoneLater bs n (i + 1) (record_at bs i).key → find (held (records bs n)) (record_at bs i).key ≡ own (record_at bs i)
 last_decides bs zero i l h = absurd (omega arith)

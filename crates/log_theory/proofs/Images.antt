@@ -3,7 +3,7 @@ use Rattle.std.proofs.Common.{◌≡◌, ℕ, zero, suc, ◌+◌, ◌-◌, ◌*�
 use Rattle.std.proofs.lemmas.List.{drop-take}
 use Rattle.std.proofs.lemmas.Bool.{false≢true, cases_Bool, cases_eq, cond-true, cond-false, and_parts, and_from, leb-true, le-leb, eq-eqb, eqb-true}
 use Rattle.store.specs.declared.fault.StoreFault.{StoreFault}
-use Rattle.store.specs.declared.fault.StoreFault.TheVariants.{BeyondLimit, BadImage}
+use Rattle.store.specs.declared.fault.StoreFault.TheVariants.{BadImage}
 use Rattle.codec.specs.declared.Record.{Record}
 use Rattle.codec.specs.declared.Trailer.{Trailer}
 use Rattle.codec.specs.Words.{Bytes}
@@ -11,7 +11,7 @@ use Rattle.codec.specs.Records.{trailer_encoded, trailer_decoded, FitsTrailer}
 use Rattle.codec.proofs.Overs.{length_over, over_in, take_over}
 use Rattle.codec.proofs.Digits.{length_trailer, trailer_read_back}
 use Rattle.log_theory.specs.Tape.{Tape, tape, record_at, records, is_put, held, pairs_of, legal, all_legal, slots, greatest_cap, allowed, Standing}
-use Rattle.log_theory.specs.Image.{image_length, trailer_of, closed_bytes, trailer_at, image_tape, is_image, opened_cap, fresh_answer, image_answer}
+use Rattle.log_theory.specs.Image.{image_length, trailer_of, closed_bytes, trailer_at, image_tape, is_image, opened_cap, image_answer}
 use Rattle.log_theory.specs.Laws.{LegalImage, OpensAnywhere}
 use Rattle.log_theory.proofs.Slots.{records_same, records_fit}
 use Rattle.log_theory.proofs.Calls.{slots_end, cap_most, cap_below}
@@ -19,13 +19,7 @@ use Rattle.log_theory.proofs.Calls.{slots_end, cap_most, cap_below}
 ok_err : {f : StoreFault} → ◌≡◌ {A = Result (Unit {0}) StoreFault} (Ok tt) (Err f) → ⊥
 ok_err e = let z : ◌≡◌ {A = ℕ} 0 1 = cc in omega arith
 
--- what the checks answered, as tests
-pub fresh_accepted : (n c : ℕ) → fresh_answer n c ≡ Ok tt → allowed n c ≡ true
-fresh_accepted n c e = ⊎_elim
-    (λ (h : allowed n c ≡ true). h)
-    (λ (h : allowed n c ≡ false). absurd (ok_err (sym e ∙ cond-false (allowed n c) (Ok tt) (Err BeyondLimit) h)))
-    (cases_Bool (allowed n c))
-
+-- what the check of an image answered, as a test
 pub image_accepted : (bs : List ℕ) (n : ℕ) → image_answer bs n ≡ Ok tt → is_image bs n ≡ true
 image_accepted bs n e = ⊎_elim
     (λ (h : is_image bs n ≡ true). h)

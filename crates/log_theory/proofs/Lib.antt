@@ -2,6 +2,7 @@ pub mod Slots
 pub mod Holds
 pub mod Counts
 pub mod Packs
+pub mod Rows
 pub mod Nexts
 pub mod Calls
 pub mod Images

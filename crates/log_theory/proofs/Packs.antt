@@ -10,7 +10,7 @@ use Rattle.codec.specs.Words.{over}
 use Rattle.codec.specs.Records.{decoded}
 use Rattle.codec.proofs.Overs.{length_over, over_over}
 use Rattle.log_theory.specs.Tape.{Tape, slot_bytes, record_at, records, is_put, value_of, own, held, pairs_of}
-use Rattle.log_theory.specs.Moves.{recurs, superseded, stays, packed, stay_count, stayers, superseded_count, compacted}
+use Rattle.log_theory.specs.Moves.{recurs, superseded, stays, packed, stay_count, stayers, compacted}
 use Rattle.log_theory.specs.Laws.{NoneLater}
 use Rattle.log_theory.proofs.Slots.{records_front, slot_behind, slot_in, length_slot}
 use Rattle.log_theory.proofs.Holds.{held_ascends, find_held}
@@ -83,10 +83,6 @@ pub stay_count_most : (bs : List ℕ) (n m : ℕ) → stay_count bs n m ≤ m
 stay_count_most bs n zero = omega arith
 stay_count_most bs n (suc m) = let ih = stay_count_most bs n m in cond_both (stays bs n m) _ _ (λ z. z ≤ suc m) (λ _. omega arith) (λ _. omega arith)
 
-pub superseded_most : (bs : List ℕ) (n m : ℕ) → superseded_count bs n m ≤ m
-superseded_most bs n zero = omega arith
-superseded_most bs n (suc m) = let ih = superseded_most bs n m in cond_both (superseded bs n m) _ _ (λ z. z ≤ suc m) (λ _. omega arith) (λ _. omega arith)
-
 pub length_packed : (bs : List ℕ) (n m : ℕ) → 32 * m ≤ length bs → length (packed bs n m) ≡ 32 * stay_count bs n m
 length_packed bs n zero h = refl
 length_packed bs n (suc m) h =
@@ -140,17 +136,6 @@ pairs_compacted t h = ap held (records_packed t.bytes t.used t.used h) ∙ held_
 
 pub used_compacted : (t : Tape) → (compacted t).used ≡ length (pairs_of t)
 used_compacted t = sym (length_stayers t.bytes t.used t.used (omega arith)) ∙ ap length (held_stayers t.bytes t.used)
-
--- a walk over the later slots
-pub recurs_hit : (bs : List ℕ) (n i k : ℕ) → i < n → (record_at bs i).key ≡ k → recurs bs i (n - i) k ≡ true
-recurs_hit bs n i k l e = recurs_here bs n i k l ∙ ap (λ b. b || recurs bs (i + 1) (n - (i + 1)) k) (eq-eqb (record_at bs i).key k e)
-
-pub recurs_miss : (bs : List ℕ) (n i k : ℕ) → i < n → ((record_at bs i).key ≡ k → ⊥) → recurs bs (i + 1) (n - (i + 1)) k ≡ recurs bs i (n - i) k
-recurs_miss bs n i k l e =
-    sym (recurs_here bs n i k l ∙ ap (λ b. b || recurs bs (i + 1) (n - (i + 1)) k) (ne_eqb (record_at bs i).key k e))
-
-pub recurs_end : (bs : List ℕ) (n i k : ℕ) → n ≤ i → recurs bs i (n - i) k ≡ false
-recurs_end bs n i k l = ap (λ d. recurs bs i d k) (let e : n - i ≡ 0 = omega arith in e)
 
 -- in plain words: a key does not come again when no later slot has it
 recurs_none : (bs : List ℕ) (i d k : ℕ) → ((j : ℕ) → i ≤ j → j < i + d → (record_at bs j).key ≡ k → ⊥) → recurs bs i d k ≡ false
@@ -221,10 +206,3 @@ module _ (bs : List ℕ) (n i : ℕ) (h : 32 * n ≤ length bs) (l : i < n) (cur
     e ∙ ap (over bs 0) (sym (cond-false (stays bs n i) (packed bs n i ++ slot_bytes bs i) (packed bs n i) s)) ∙ ap (λ m. over bs 0 (packed bs n m)) (sym (add-one i)),
     c ∙ sym (cond-false (stays bs n i) (stay_count bs n i + 1) (stay_count bs n i) s) ∙ ap (stay_count bs n) (sym (add-one i)),
   )
-
--- one slot more counted
-pub counted_one : (bs : List ℕ) (n i : ℕ) → superseded bs n i ≡ true → superseded_count bs n i + 1 ≡ superseded_count bs n (i + 1)
-counted_one bs n i h = sym (ap (superseded_count bs n) (add-one i) ∙ cond-true _ _ _ h)
-
-pub counted_none : (bs : List ℕ) (n i : ℕ) → superseded bs n i ≡ false → superseded_count bs n i ≡ superseded_count bs n (i + 1)
-counted_none bs n i h = sym (ap (superseded_count bs n) (add-one i) ∙ cond-false _ _ _ h)

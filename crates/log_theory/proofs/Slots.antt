@@ -1,6 +1,7 @@
 -- The slots of a log after a write: what is written, and what stays before and behind it.
-use Rattle.std.proofs.Common.{◌≡◌, ℕ, zero, suc, ◌+◌, ◌*◌, ◌≤◌, List, ◌∷◌, length, take, drop, sym, refl, ap, ◌∙◌, add-one, arith}
-use Rattle.std.proofs.lemmas.List.{length-take-le, length-drop, take-take, drop-take}
+use Rattle.std.proofs.Common.{◌≡◌, ℕ, zero, suc, ◌+◌, ◌-◌, ◌*◌, ◌≤◌, List, ◌∷◌, ◌++◌, length, take, drop, sym, refl, ap, ◌∙◌, add-one, arith}
+use Rattle.std.proofs.lemmas.List.{append_assoc, length-take-le, length-drop, take-take, drop-take}
+use Rattle.std.specs.List.{copy_within}
 use Rattle.codec.specs.declared.Record.{Record}
 use Rattle.codec.specs.Words.{over, Bytes}
 use Rattle.codec.specs.Records.{encoded, decoded, FitsRecord}
@@ -53,3 +54,11 @@ records_more bs n = ap (records bs) (add-one n)
 
 pub same_tape : (bs cs : List ℕ) (n m : ℕ) → bs ≡ cs → n ≡ m → tape bs n ≡ tape cs m
 same_tape bs cs n m e f = λ i. record { bytes = e i; used = f i }
+
+-- a slot copied over another
+pub copied_slot : (bs : List ℕ) (i w : ℕ) → 32 * i + 32 ≤ length bs → copy_within bs (32 * i) (32 * i + 32) (32 * w) ≡ over bs (32 * w) (slot_bytes bs i)
+unfolding over
+copied_slot bs i w h =
+    ap (λ n. take (32 * w) bs ++ take n (drop (32 * i) bs) ++ drop (32 * w + n) bs) (let z : 32 * i + 32 - 32 * i ≡ 32 = omega arith in z)
+    ∙ append_assoc (take (32 * w) bs) (slot_bytes bs i) (drop (32 * w + 32) bs)
+    ∙ ap (λ n. take (32 * w) bs ++ (slot_bytes bs i ++ drop (32 * w + n) bs)) (sym (length_slot bs i h))

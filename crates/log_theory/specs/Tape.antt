@@ -1,6 +1,7 @@
 -- What the records of a log mean. A log is a row of 32-byte slots in a lent slice of bytes; the
 -- first of them, in the order of writing, are in use.
 use Rattle.std.specs.Prelude.{◌≡◌, ℕ, zero, suc, ◌+◌, ◌-◌, ◌*◌, ◌/◌, ◌≤◌, Bool, true, cond, ◌&&◌, ◌||◌, List, [], ◌∷◌, length, take, drop, Some, None, Option, ◌==◌, nat_le}
+use Rattle.std.specs.List.{list_all}
 use Rattle.pairs.specs.Pairs.{Pair, insert, erase}
 use Rattle.store.specs.declared.value.Value.{Value}
 use Rattle.codec.specs.declared.Record.{Record}
@@ -56,8 +57,7 @@ abbrev pub legal : Record → Bool
 legal r = is_put r || (r.kind == 2 && (r.a == 0 && r.b == 0))
 
 abbrev pub all_legal : List Record → Bool
-all_legal [] = true
-all_legal (r ∷ rs) = legal r && all_legal rs
+all_legal rs = list_all legal rs
 
 -- the words of records fit 64 bits
 abbrev pub AllFit : List Record → Type 0

@@ -2,13 +2,12 @@
 use Rattle.std.proofs.Common.{◌≡◌, ℕ, zero, suc, ◌+◌, ◌≤◌, true, false, ◌&&◌, leb, List, [], ◌∷◌, length, get_or, Some, None, Ok, Err, Option, sym, refl, ap, ◌∙◌, subst, inl, inr, arith}
 use Rattle.std.proofs.lemmas.Bool.Decides.{nat_tests}
 use Rattle.std.proofs.lemmas.Bool.{cases_Bool, cond-true, cond-false, and_parts, leb-true}
-use Rattle.std.proofs.lemmas.List.{length-map}
+use Rattle.std.proofs.lemmas.List.{length-map, nil_from_length}
+use lib.ListN.{get_or-map}
 use Rattle.placement.specs.Laws.{Rule}
 use Rattle.placement.proofs.Holding.{count_up_rostered}
-use Rattle.pairs.specs.Pairs.{Pair}
-use Rattle.store.specs.Meaning.{Meaning}
+use Rattle.store.specs.Meaning.{Meaning, nothing}
 use Rattle.store.specs.Stores.{nth}
-use Rattle.store.specs.declared.value.Value.{Value}
 use Rattle.machine.specs.declared.fault.Fault.{Fault}
 use Rattle.machine.specs.declared.fault.Fault.TheVariants.{BeyondLimit}
 use Rattle.machine.specs.OneMap as one
@@ -18,9 +17,7 @@ use Rattle.machine.specs.Lent.{Lent, first_holding, open_unless}
 use Rattle.machine.specs.Holds.{Holds, Empty, caps_of, OpensAlike}
 
 cap_at : (st : List Meaning) (s : ℕ) → (nth st s).cap ≡ get_or (caps_of st) s 0
-cap_at [] s = refl
-cap_at (x ∷ st) zero = refl
-cap_at (x ∷ st) (suc s) = cap_at st s
+cap_at st s = sym (get_or-map (λ (x : Meaning). x.cap) st s nothing)
 
 pub caps_length : (st : List Meaning) → length (caps_of st) ≡ length st
 caps_length st = length-map st (λ (x : Meaning). x.cap)
@@ -50,17 +47,10 @@ limits_of p n m r e =
       few_copies = leb-true r p.greatest f.1;
     }
 
-no_pairs : (x : Meaning) → length x.pairs ≡ 0 → x.pairs ≡ []
-no_pairs x e = go x.pairs e
-  where
-    go : (l : List (Pair Value)) → length l ≡ 0 → l ≡ []
-    go [] h = refl
-    go (y ∷ l) h = absurd (omega arith)
-
 -- no store holds a pair exactly where all are empty
 pub none_holding : (st : List Meaning) (i : ℕ) → first_holding i st ≡ None → Empty st
 none_holding [] i e s = refl
-none_holding (x ∷ st) i e zero = no_pairs x (grind (arith, nat_tests))
+none_holding (x ∷ st) i e zero = nil_from_length x.pairs (grind (arith, nat_tests))
 none_holding (x ∷ st) i e (suc s) = none_holding st (i + 1) (grind (arith, nat_tests)) s
 
 pub empty_none_holding : (st : List Meaning) (i : ℕ) → Empty st → first_holding i st ≡ None

@@ -2,6 +2,7 @@
 use Rattle.std.proofs.Common.{◌≡◌, ℕ, ◌+◌, ◌<◌, ◌≤◌, Bool, true, false, cond, ltb, leb, ◌⊎◌, List, ◌++◌, length, get_or, is_some, Some, None, Option, sym, refl, ap, ◌∙◌, subst, subst₂, inl, inr, arith}
 use Rattle.std.proofs.lemmas.Bool.Decides.{nat_tests}
 use Rattle.std.proofs.lemmas.Bool.{cases_lt, cases_order, cases_Bool, cond-true, cond-false, lt-ltb, le-ltb}
+use Rattle.std.proofs.lemmas.Option.{none-some}
 use Rattle.lists.specs.Numbers.{member}
 use Rattle.lists.proofs.Members.{member_append}
 use Rattle.placement.specs.Laws.{Rule, Rostered, Lawful}
@@ -250,7 +251,7 @@ module _ (p : Rule) (law : Lawful p) (o : OneMap) (st : List Meaning) (h : Holds
 
       unless_follows : (v : Value) → find o.entries k ≡ Some v → (g l : Option ℕ) → first_outside (new_of p o ch k) (old_of p o k) ≡ g → first_outside (old_of p o k) (new_of p o ch k) ≡ l →
           Follows p (one.advance_unless p o ch k g l) (lent.advance_unless p (over o st) ch k v g l)
-      unless_follows v here None l eg el = advance_follows v here None l eg el (λ s t. absurd (let z : ◌≡◌ {A = ℕ} 0 1 = cc in omega arith))
+      unless_follows v here None l eg el = advance_follows v here None l eg el (λ s t. absurd (none-some s t))
       unless_follows v here (Some s) l eg el =
           elim (cases_Bool (full_for (nth st s) k)) [
             | inl t ↦ subst₂ (λ (x y : Bool). Follows p (cond x (refuse o (full_store s)) (one.advance p o ch k (Some s) l)) (cond y (refuse (over o st) (full_store s)) (lent.advance p (over o st) ch k v (Some s) l)))

@@ -7,3 +7,4 @@ pub mod Lent
 pub mod Holds
 pub mod Laws
 pub mod Statements
+pub mod Texts

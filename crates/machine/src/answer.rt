@@ -13,6 +13,8 @@ pub struct Moved {
     pub lost: Option<usize>,
 }
 
+// What one call of a list answers, refusals among the cases: each call of a service has a `Result` of its own type, and
+// only here, where calls of all kinds stand in one list, do their answers.
 #[derive(Clone, Copy)]
 pub enum Answer {
     Found(Option<Value>),

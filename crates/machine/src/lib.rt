@@ -16,10 +16,12 @@ pub mod answer;
 pub mod call;
 pub mod fault;
 pub mod statement;
+mod text;
 
 use entry::fault::EntryFault;
 use fault::{Fault, StoreRefusal};
 
+// Both conversions are written out, so that a clause knows which fault a question mark makes.
 impl From<StoreRefusal> for Fault {
     ghost from_gives = { λ e r. r ≡ Store e };
 
@@ -38,6 +40,7 @@ impl From<EntryFault> for Fault {
 
 impl Fault {
     // The number by which reports name this refusal; a store's fault has the store's own.
+    // A match, since some variants hold data, and so have no numbers that a cast would give.
     pub fn number(&self) -> u8
         ensures { result ≡ fault_number self.now }
     {
@@ -70,6 +73,7 @@ pub fn lists_agree()
 }
 
 // The count of copies is the number of accepted steps that named a gained store, modulo 2^64.
+#[tactic(auto, using(crate::proofs::Counting::copies_counted))]
 pub fn copies_are_counted()
     ensures { CopiesAreCounted }
 {
@@ -77,6 +81,7 @@ pub fn copies_are_counted()
 }
 
 // A get answers what the last accepted put of its key wrote, or none if a removal came since or there was none.
+#[tactic(auto, using(crate::proofs::Reading::reads_back))]
 pub fn gets_read_back()
     ensures { GetsReadBack }
 {

@@ -2,7 +2,8 @@
 use placement::roster::Roster;
 
 // How far a change has come: the keys below the cursor have moved. `Past` lies above every key.
-#[derive(Clone, Copy)]
+// Not an Option, whose `None` would lie below every key.
+#[derive(Clone, Copy, PartialEq, Eq, PartialOrd, Ord, Debug)]
 pub enum Cursor {
     At(u64),
     Past,

@@ -276,10 +276,6 @@ module _ {V : Type 0} where
   next_insert [] j v k = grind (arith, nat_tests)
   next_insert (p ∷ m) j v k = let ih = next_insert m j v k in grind (arith, nat_tests)
 
-pub nearer_none : (a : Option ℕ) → nearer a None ≡ a
-nearer_none None = refl
-nearer_none (Some x) = refl
-
 pub nearer_assoc : (a b c : Option ℕ) → nearer (nearer a b) c ≡ nearer a (nearer b c)
 nearer_assoc None b c = refl
 nearer_assoc (Some x) None c = refl

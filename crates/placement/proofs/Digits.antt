@@ -1,6 +1,7 @@
 -- Packed words: the number at a place, one more behind the last, one taken out.
 use Rattle.std.proofs.Common.{◌≡◌, ℕ, zero, suc, ◌+◌, ◌*◌, ◌/◌, ◌%◌, ◌^◌, ◌<◌, ◌≤◌, List, [], ◌∷◌, ◌++◌, length, get_or, take, sym, refl, ap, ◌∙◌, lt_of_lt_of_le, div-one, mul_left_comm, arith, pow_pos, pow_mono}
 use Rattle.std.proofs.lemmas.Nat.{shr-shr, shr_split, one_shl, mod_below, mod-pow-add, pow-add, mul-le, shl_whole}
+use Rattle.std.specs.List.{AllByRecursion}
 use Rattle.placement.specs.Packing.{unpack, cut}
 
 pub length_unpack : (w n : ℕ) → length (unpack w n) ≡ n
@@ -105,3 +106,8 @@ cut_fits w i h =
 
 pub cut_high : (w i : ℕ) → w < 2 ^ 64 → (w / 2 ^ (4 * i) / 16 * 2 ^ (4 * i)) % 2 ^ 64 ≡ w / 2 ^ (4 * i) / 16 * 2 ^ (4 * i)
 cut_high w i h = let a = cut_fits w i h in omega arith
+
+-- each number of a word is below sixteen
+pub unpack_small : (w n : ℕ) → AllByRecursion (λ s. s < 16) (unpack w n)
+unpack_small w zero = tt
+unpack_small w (suc n) = (mod_below w 16 (omega arith), unpack_small (w / 16) n)

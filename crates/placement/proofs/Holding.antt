@@ -1,17 +1,17 @@
 -- Rosters: what their type keeps, and what their calls make of the list.
-use Rattle.std.proofs.Common.{◌≡◌, ℕ, zero, suc, ◌+◌, ◌<◌, ◌≤◌, true, false, cond, ◌&&◌, eqb, ltb, leb, List, [], ◌∷◌, ◌++◌, length, get_or, take, drop, is_some, Some, None, Ok, Err, Option, sym, refl, ap, ◌∙◌, subst, inl, inr, add-zero, arith, length-append}
+use Rattle.std.proofs.Common.{◌≡◌, ℕ, zero, suc, ◌+◌, ◌<◌, ◌≤◌, true, false, cond, ◌&&◌, eqb, ltb, leb, List, [], ◌∷◌, ◌++◌, length, take, is_some, Some, None, Ok, Err, Option, sym, refl, ap, ◌∙◌, subst, inl, inr, arith, length-append}
+use Rattle.std.specs.List.{AllByRecursion, list_any, position}
 use Rattle.std.specs.Option.{option_map}
 use Rattle.std.proofs.lemmas.Bool.Decides.{nat_tests}
-use Rattle.std.proofs.lemmas.Bool.{cases_Bool, cond_both, cond-true, cond-false, eq-eqb, ne_eqb, lt-ltb}
+use Rattle.std.proofs.lemmas.Bool.{cases_Bool, cond_both, cond-true, cond-false, lt-ltb}
 use Rattle.lists.specs.Numbers.{member, place_of, all_distinct, without, count_up}
-use Rattle.lists.proofs.Members.{member_append, without_distinct, without_in, without_absent, without_length, push_distinct, pigeons, count_up_member, count_up_high, count_up_distinct, length_count_up, distinct_from_test, test_from_distinct}
-use Rattle.lists.proofs.Places.{onward}
+use Rattle.lists.proofs.Members.{member_append, without_distinct, without_in, without_length, push_distinct, pigeons, count_up_member, count_up_high, count_up_distinct, length_count_up, distinct_from_test, test_from_distinct}
 use Rattle.placement.specs.declared.roster.Roster.{Roster}
 use Rattle.placement.specs.declared.roster.RosterFault.TheVariants.{OnlyMember, NotAMember}
 use Rattle.placement.specs.Packing.{unpack, cut}
 use Rattle.placement.specs.Laws.{Rostered}
 use Rattle.placement.specs.Rosters.{members, first_of, with_store, without_store}
-use Rattle.placement.proofs.Digits.{length_unpack, take_unpack}
+use Rattle.placement.proofs.Digits.{length_unpack, take_unpack, unpack_small}
 
 pub push_roster : (n : ℕ) (R : List ℕ) (s : ℕ) → Rostered n R → member s R ≡ false → s < n → Rostered n (R ++ s ∷ [])
 push_roster n R s r m l = record {
@@ -41,12 +41,6 @@ rostered_few n R r =
     let p : length R ≤ length (count_up 0 n) = pigeons R (count_up 0 n) r.distinct (λ x h. let b : x < n = r.below x h in count_up_member n 0 x (omega arith) (omega arith)) in
     let e = length_count_up n 0 in omega arith
 
-pub rostered_without : (n : ℕ) (R : List ℕ) (s : ℕ) → Rostered n R → 2 ≤ length R → Rostered n (without s R)
-rostered_without n R s r l = elim (cases_Bool (member s R)) [
-  | inl t ↦ without_roster n R s r t l
-  | inr t ↦ rw (without_absent s R t) r
-]
-
 pub rostered_push_few : (n : ℕ) (R : List ℕ) (s : ℕ) → Rostered n R → member s R ≡ false → s < n → length R < n
 rostered_push_few n R s r m l =
     let p : length (R ++ s ∷ []) ≤ n = rostered_few n (R ++ s ∷ []) (push_roster n R s r m l) in
@@ -63,13 +57,13 @@ members_rostered r = record {
   some = let l = length_unpack r.word r.len in let s : 1 ≤ r.len = r.some in omega arith;
 }
 
--- as the laws of a placement take it
-pub members_rostered_16 : (r : Roster) → Rostered 16 (members r)
-members_rostered_16 r = roster_more r.stores (members r) r.few (members_rostered r)
-
 pub length_members : (r : Roster) → length (members r) ≡ r.len
 unfolding members
 length_members r = length_unpack r.word r.len
+
+pub members_small : (r : Roster) → AllByRecursion (λ s. s < 16) (members r)
+unfolding members
+members_small r = unpack_small r.word r.len
 
 -- the facts in a roster's ghost fields, from what its word lists
 abbrev pub Kept : ℕ → ℕ → ℕ → Type 0
@@ -107,6 +101,20 @@ place_member s (x ∷ l) =
     cond_both (eqb x s) (Some 0) (option_map (λ i. i + 1) (place_of s l)) (λ o. is_some o ≡ cond (eqb x s) true (member s l))
     (λ e. grind (arith, nat_tests)) (λ e. m ∙ ih ∙ grind (arith, nat_tests))
 
+-- a store's place is what a search for it finds
+pub place_position : (s : ℕ) (l : List ℕ) → place_of s l ≡ position (λ x. eqb x s) l
+place_position s [] = refl
+place_position s (x ∷ l) =
+    let ih : place_of s l ≡ position (λ x. eqb x s) l = place_position s l in
+    grind (arith, nat_tests)
+
+-- and a store is a member where one of the members is it
+pub member_any : (s : ℕ) (l : List ℕ) → member s l ≡ list_any (λ x. eqb x s) l
+member_any s [] = refl
+member_any s (x ∷ l) =
+    let ih : member s l ≡ list_any (λ x. eqb x s) l = member_any s l in
+    grind (arith, nat_tests)
+
 mapped_some : (o : Option ℕ) (i : ℕ) → option_map (λ j. j + 1) o ≡ Some i → (j : ℕ) × (o ≡ Some j) × (i ≡ suc j)
 mapped_some None i e = absurd (let z : ◌≡◌ {A = ℕ} 0 1 = cc in omega arith)
 mapped_some (Some j) i e = (j, refl, (let z : j + 1 ≡ i = cc in omega arith))
@@ -124,26 +132,6 @@ place_cut s (x ∷ l) i e = elim (cases_Bool (eqb x s)) [
       let si : i ≡ suc m.0 = m.2 in
       (let q : m.0 < length l = ih.0 in omega arith, ap (λ (u : ℕ). cut u (x ∷ l)) si ∙ ap (λ (u : List ℕ). x ∷ u) ih.1 ∙ sym (ap (λ b. cond b l (x ∷ without s l)) t)))
 ]
-
--- what a walk for a store's place has found from place i on
-abbrev pub found_from : ℕ → ℕ → List ℕ → Option ℕ
-found_from s i l = option_map (λ j. i + j) (place_of s l)
-
-twice_mapped : (i : ℕ) (o : Option ℕ) → option_map (λ j. (i + 1) + j) o ≡ option_map (λ j. i + j) (option_map (λ j. j + 1) o)
-twice_mapped i None = refl
-twice_mapped i (Some j) = let e : (i + 1) + j ≡ i + (j + 1) = omega arith in ap Some e
-
-module _ (s x i : ℕ) (L : List ℕ) (inside : i < length L) (at : x ≡ get_or L i 0) (so_far : found_from s i (drop i L) ≡ place_of s L) where
-  here : found_from s i (x ∷ drop (i + 1) L) ≡ place_of s L
-  here = onward (found_from s i) L i x (place_of s L) inside at so_far
-
-  pub found_here : x ≡ s → Some i ≡ place_of s L
-  found_here e =
-      ap Some (sym (add-zero i)) ∙ sym (ap (λ b. option_map (λ j. i + j) (cond b (Some 0) (option_map (λ j. j + 1) (place_of s (drop (i + 1) L))))) (eq-eqb x s e)) ∙ here
-
-  pub found_later : (x ≡ s → ⊥) → found_from s (i + 1) (drop (i + 1) L) ≡ place_of s L
-  found_later n =
-      twice_mapped i (place_of s (drop (i + 1) L)) ∙ sym (ap (λ b. option_map (λ j. i + j) (cond b (Some 0) (option_map (λ j. j + 1) (place_of s (drop (i + 1) L))))) (ne_eqb x s n)) ∙ here
 
 -- what the calls answer, by case
 pub first_accepts : (m n : ℕ) → 1 ≤ m → m ≤ n → n ≤ 16 → first_of m n ≡ Ok (count_up 0 m)

@@ -3,6 +3,7 @@ pub mod Rosters
 pub mod Laws
 pub mod Rendezvous
 pub mod Candidates
+pub mod Comparing
 pub mod Jump
 pub mod Policies
 pub mod Figures

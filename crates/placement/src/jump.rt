@@ -39,6 +39,7 @@ impl Placement for Jump {
 
     ghost lawful = { λ p. jump_lawful };
 
+    #[tactic(auto, unfolding(crate::specs::Jump::jump))]
     fn greatest(&self) -> usize {
         GREATEST
     }
@@ -56,6 +57,7 @@ impl Placement for Jump {
         }
     }
 
+    #[tactic(auto, using(crate::proofs::Digits::length_unpack, crate::specs::Walking::last_is), unfolding(crate::specs::Jump::jump, crate::specs::Rosters::members))]
     fn may_leave(&self, roster: &Roster, store: usize) -> bool {
         number_at(roster.word, roster.len - 1) == store
     }

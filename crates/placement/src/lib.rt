@@ -3,6 +3,7 @@
 
 pub mod jump;
 pub mod laws;
+pub mod members;
 pub mod placing;
 pub mod policies;
 pub mod policy;
@@ -13,7 +14,10 @@ pub mod rosters;
 ghost use Rattle.std.specs.Prelude.{◌≡◌, ℕ, ◌+◌, ◌<◌, ◌≤◌, [], ◌∷◌, ◌++◌, slice_index};
 ghost use Rattle.placement.specs.Packing.{unpack, cut};
 
+// A roster is one 64-bit word with its length: its numbers are read, pushed and cut by the three functions below.
+
 // The number at a place of a packed word: sixteen 4-bit numbers, the first lowest.
+#[tactic(auto, using(crate::proofs::Digits::get_or_unpack))]
 fn number_at(word: u64, place: usize) -> usize
     requires { place < 16 }
     ensures { (result < 16) × (((n : ℕ) → place < n → result ≡ slice_index (unpack word n) place)) }

@@ -1,4 +1,5 @@
-// A policy, chosen by name while the program runs, is a placement.
+// A policy, chosen by name while the program runs, is a placement. Each call is a match over the two, and no
+// `dyn`: a placement's laws name its type.
 ghost use Rattle.placement.specs.Policies.{rule_of};
 ghost use Rattle.placement.specs.declared.policies.Policy.TheVariants.{Rendezvous, Jump};
 ghost use Rattle.placement.specs.Firsts.{rendezvous_lawful};

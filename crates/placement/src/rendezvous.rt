@@ -6,14 +6,16 @@ ghost use Rattle.placement.specs.Packing.{unpack};
 ghost use Rattle.placement.specs.Rosters.{members};
 ghost use Rattle.placement.specs.Laws.{nearest};
 ghost use Rattle.placement.specs.Rendezvous.{digest as digest_of, weight_at, ahead, rendezvous as rendezvous_rule, Heaviest};
-ghost use Rattle.placement.specs.Candidates.{candidate, heavier, store_of, Numbered};
-ghost use Rattle.std.proofs.Common.{rules};
+ghost use Rattle.placement.specs.Candidates.{candidate, store_of, Numbered};
+ghost use Rattle.placement.specs.Comparing.{candidates_ordered};
 ghost use Rattle.placement.specs.Firsts.{rendezvous_lawful};
 
+use crate::number_pushed;
 use crate::placing::Placement;
 use crate::roster::Roster;
-use crate::{number_at, number_pushed};
+use arrayvec::ArrayVec;
 use order::{Order, select_first};
+use std::cmp::Reverse;
 
 // The multiplier and the increment of the weights' generator, which works modulo 2^31.
 const A: u64 = 1103515245;
@@ -25,30 +27,15 @@ const MODULUS: u64 = 2147483648;
 // The greatest number of copies.
 const GREATEST: usize = 4;
 
-// A store and its weight for a key.
-#[derive(Clone, Copy)]
+// A store and its weight for a key, in order: greater weight first, then smaller number.
+#[derive(Clone, Copy, Default, PartialEq, Eq, PartialOrd, Ord)]
 pub struct Candidate {
-    pub weight: u64,
+    pub weight: Reverse<u64>,
     pub store: usize,
 }
 
-// Greater weight first, then smaller number.
 impl Order for Candidate {
-    ghost before = { heavier };
-
-    ghost total = { Prim.search rules };
-
-    ghost transitive = { Prim.search rules };
-
-    ghost antisymmetric = { Prim.search rules };
-
-    fn comes_before(&self, other: &Candidate) -> bool {
-        if self.weight == other.weight {
-            self.store <= other.store
-        } else {
-            other.weight < self.weight
-        }
-    }
+    ghost ordered = { candidates_ordered };
 }
 
 // A key folded to 31 bits.
@@ -59,6 +46,7 @@ fn digest(key: u64) -> u64
 }
 
 // The weight of a store at a key's digest.
+#[tactic(auto, using(std::proofs::lemmas::Nat::xor_lt, std::proofs::lemmas::Nat::mod_below))]
 fn weight(digest: u64, store: usize) -> u64
     requires { (digest < 2 ^ 31) × (store < 16) }
     ensures { result ≡ weight_at digest store }
@@ -67,41 +55,42 @@ fn weight(digest: u64, store: usize) -> u64
     (A * (start ^ digest) + B) % MODULUS
 }
 
-// Writes the members of a roster, with their weights, over a slice of as many.
-fn weigh(key: u64, roster: &Roster, room: &mut [Candidate])
-    requires { length room.old ≡ length (members roster.now) }
-    ensures { room.new ≡ map (candidate key) (members roster.now) }
+// The members of a roster, each with its weight.
+fn weigh(key: u64, roster: &Roster) -> ArrayVec<Candidate, 16>
+    ensures { result.items ≡ map (candidate key) (members roster.now) }
 {
     let d = digest(key);
-    for i in 0..roster.len {
-        let store = number_at(roster.word, i);
-        room[i] = Candidate {
-            weight: weight(d, store),
+    let mut candidates = ArrayVec::new();
+    for store in roster.iter() {
+        candidates.push(Candidate {
+            weight: Reverse(weight(d, store)),
             store,
-        };
+        });
     }
+    candidates
 }
 
-// The stores of the first candidates, packed.
-fn packed(room: &[Candidate], count: usize) -> u64
-    requires { (count ≤ length room.now) × ((count ≤ 16) × (AllByRecursion Numbered room.now)) }
-    ensures { unpack result count ≡ map store_of (take count room.now) }
+// The stores of some candidates, packed.
+fn packed(candidates: &[Candidate]) -> u64
+    requires { (length candidates.now ≤ 16) × (AllByRecursion Numbered candidates.now) }
+    ensures { unpack result (length candidates.now) ≡ map store_of candidates.now }
 {
     let mut word = 0;
-    for i in 0..count {
-        word = number_pushed(word, i, room[i].store);
+    for (place, candidate) in candidates.iter().enumerate() {
+        word = number_pushed(word, place, candidate.store);
     }
     word
 }
 
-// The first members of a roster by weight, packed, selected in a slice of as many as it has.
-fn heaviest(key: u64, roster: &Roster, count: usize, room: &mut [Candidate]) -> u64
-    requires { (length room.old ≡ length (members roster.now)) × (count ≤ length room.old) }
+// The first members of a roster by weight, packed.
+fn heaviest(key: u64, roster: &Roster, count: usize) -> u64
+    requires { count ≤ length (members roster.now) }
     ensures { unpack result count ≡ take count (sort (ahead key) (members roster.now)) }
 {
-    weigh(key, roster, room);
-    select_first(room, count);
-    packed(room, count)
+    let mut candidates = weigh(key, roster);
+    let ranked = candidates.as_mut_slice();
+    select_first(ranked, count);
+    packed(&ranked[..count])
 }
 
 // How long a list is: as many as the copies, 1 to 4, or as the members where these are fewer.
@@ -119,6 +108,7 @@ impl Placement for Rendezvous {
 
     ghost lawful = { λ p. rendezvous_lawful };
 
+    #[tactic(auto, unfolding(crate::specs::Rendezvous::rendezvous))]
     fn greatest(&self) -> usize {
         GREATEST
     }
@@ -128,20 +118,15 @@ impl Placement for Rendezvous {
         ensures stores_kept { result.stores ≡ roster.now.stores }
         ensures heaviest { Heaviest key (members roster.now) (members result) }
     {
-        let len = roster.len;
-        let count = list_len(copies, len);
-        let mut room = [Candidate {
-            weight: 0,
-            store: 0,
-        }; 16];
-        let word = heaviest(key, roster, count, &mut room[0..len]);
+        let count = list_len(copies, roster.len);
         Roster {
-            word,
+            word: heaviest(key, roster, count),
             len: count,
             stores: roster.stores,
         }
     }
 
+    #[tactic(auto, unfolding(crate::specs::Rendezvous::rendezvous))]
     fn may_leave(&self, _roster: &Roster, _store: usize) -> bool {
         true
     }

@@ -3,10 +3,11 @@ ghost use Rattle.std.specs.Prelude.{◌≡◌, ℕ, ◌<◌, ◌≤◌, length, 
 ghost use Rattle.lists.specs.Numbers.{member, nth, place_of};
 ghost use Rattle.placement.specs.Rosters.{members, listing, first_of, with_store, without_store};
 
+use crate::members::Members;
 use crate::roster::{Roster, RosterFault};
 use crate::{number_at, number_cut, number_pushed};
 
-// The numbers 0 to 15 in one word.
+// The numbers 0 to 15 in one word, packed as a roster's members are.
 const COUNT_UP: u64 = 0xfedc_ba98_7654_3210;
 
 impl Roster {
@@ -33,13 +34,25 @@ impl Roster {
     }
 
     // The number of members, 1 to 16.
+    #[tactic(auto, using(crate::proofs::Holding::length_members))]
     pub fn len(&self) -> usize
         ensures { (result ≡ length (members self.now)) × ((1 ≤ result) × (result ≤ 16)) }
     {
         self.len
     }
 
-    // The member at a position, counted from 0.
+    // The members, from the first to the last.
+    #[tactic(auto, unfolding(crate::specs::Rosters::members))]
+    pub fn iter(&self) -> Members
+        ensures { result ≡ members self.now }
+    {
+        Members {
+            word: self.word,
+            left: self.len,
+        }
+    }
+
+    // The member at a position, counted from 0: read where it lies, without a walk.
     pub fn member(&self, position: usize) -> Option<usize>
         ensures { result ≡ nth (members self.now) position }
     {
@@ -54,19 +67,14 @@ impl Roster {
     pub fn position(&self, store: usize) -> Option<usize>
         ensures { result ≡ place_of store (members self.now) }
     {
-        for i in 0..self.len {
-            if number_at(self.word, i) == store {
-                return Some(i);
-            }
-        }
-        None
+        self.iter().position(|member| member == store)
     }
 
     // Whether a store is a member.
     pub fn contains(&self, store: usize) -> bool
         ensures { result ≡ member store (members self.now) }
     {
-        self.position(store).is_some()
+        self.iter().any(|member| member == store)
     }
 
     // The roster with a store behind its last.
@@ -93,18 +101,14 @@ impl Roster {
         ensures lists { listing result ≡ without_store store (members self.now) }
         ensures stores_held { IfOk result (λ q. q.stores ≡ self.now.stores) }
     {
-        match self.position(store) {
-            None => Err(RosterFault::NotAMember),
-            Some(at) => {
-                if self.len < 2 {
-                    return Err(RosterFault::OnlyMember);
-                }
-                Ok(Roster {
-                    word: number_cut(self.word, at),
-                    len: self.len - 1,
-                    stores: self.stores,
-                })
-            }
+        let at = self.position(store).ok_or(RosterFault::NotAMember)?;
+        if self.len < 2 {
+            return Err(RosterFault::OnlyMember);
         }
+        Ok(Roster {
+            word: number_cut(self.word, at),
+            len: self.len - 1,
+            stores: self.stores,
+        })
     }
 }

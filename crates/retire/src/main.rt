@@ -7,15 +7,15 @@ use bank::beside::Beside;
 use bank::empty::Empty;
 use cells::Cell;
 use cluster::run;
-use cluster::runs::{End, Ending, Ran, Unrun};
+use cluster::runs::{Ending, Ran, Unrun};
 use entry::calibration::Calibration;
 use entry::reading::{Reading, State};
-use machine::answer::{Answer, Moved};
+use machine::answer::Answer;
 use machine::call::Call;
 use machine::statement::Statement;
 use placement::rendezvous::Rendezvous;
 use service::handed::Kept;
-use std::io;
+use std::{fmt, io};
 use store::{Put, Store};
 use table::Table;
 
@@ -65,61 +65,46 @@ const CALLS: [Call; 13] = [
     Call::GetReading(3),
 ];
 
-// A store's number, or a dash for none.
-fn print_store(rt: &HostRuntime, store: Option<usize>) -> io::Result<()> {
-    match store {
-        None => print!(rt; " -"),
-        Some(store) => print!(rt; " {store}"),
-    }
-}
+// An answer, as text.
+#[derive(Drop)]
+struct Told<'a>(&'a Answer);
 
-fn print_moved(rt: &HostRuntime, moved: &Moved) -> io::Result<()> {
-    print!(rt; "moved {}", moved.key)?;
-    print_store(rt, moved.gained)?;
-    print_store(rt, moved.lost)?;
-    println!(rt; "")
-}
-
-fn print_answer(rt: &HostRuntime, answer: &Answer) -> io::Result<()> {
-    match answer {
-        Answer::Found(None) | Answer::FoundCalibration(None) | Answer::FoundReading(None) =>
-            println!(rt; "none"),
-        Answer::Found(Some(value)) => println!(rt; "words {} {}", value.a, value.b),
-        Answer::FoundCalibration(Some(entry)) => println!(rt;
-            "calibration {} {}",
-            entry.firmware, entry.factor
-        ),
-        Answer::FoundReading(Some(entry)) => println!(rt; "reading {}", entry.millilitres),
-        Answer::Stored(Put::New) => println!(rt; "new"),
-        Answer::Stored(Put::Replaced) => println!(rt; "replaced"),
-        Answer::Removed(held) => println!(rt; "removed {held}"),
-        Answer::Opened(store) => println!(rt; "open {store}"),
-        Answer::Moved(moved) => print_moved(rt, moved),
-        Answer::Done => println!(rt; "done"),
-        Answer::Refused(fault) => println!(rt; "refused {}", fault.number()),
+impl<'a> fmt::Display for Told<'a> {
+    fn fmt<W: fmt::Write>(&self, f: &mut fmt::Formatter<W>) -> fmt::Result {
+        match self.0 {
+            Answer::Found(None) | Answer::FoundCalibration(None) | Answer::FoundReading(None) =>
+                write!(f, "none"),
+            Answer::Found(Some(value)) => write!(f, "words {} {}", value.a, value.b),
+            Answer::FoundCalibration(Some(entry)) => write!(
+                f,
+                "calibration {} {}",
+                entry.firmware, entry.factor
+            ),
+            Answer::FoundReading(Some(entry)) => write!(f, "reading {}", entry.millilitres),
+            Answer::Stored(Put::New) => write!(f, "new"),
+            Answer::Stored(Put::Replaced) => write!(f, "replaced"),
+            Answer::Removed(held) => write!(f, "removed {held}"),
+            Answer::Opened(store) => write!(f, "open {store}"),
+            Answer::Moved(moved) => write!(f, "moved {moved}"),
+            Answer::Done => write!(f, "done"),
+            Answer::Refused(fault) => write!(f, "refused {}", fault.number()),
+        }
     }
 }
 
 // One line for each answer.
 fn print_answers(rt: &HostRuntime, answers: &[Answer]) -> io::Result<()> {
-    for answer in answers.iter() {
-        print_answer(rt, answer)?;
+    for answer in answers {
+        println!(rt; "{}", Told(answer))?;
     }
     Ok(())
-}
-
-// What the service says at its end.
-fn closing(end: End<Rendezvous>) -> Statement {
-    match end {
-        End::Closed(closed) => closed.statement,
-        End::Open(service) => service.close().statement,
-    }
 }
 
 // The count of each store, the copies made, and the members that are left.
 fn print_end<B: Bank>(rt: &HostRuntime, bank: &B, statement: Statement) -> io::Result<()>
     requires { B.Bank.standing bank.now }
 {
+    // A bank knows its stores by their numbers alone.
     for store in 0..bank.len() {
         println!(rt; "store {store} {}", bank.count(store))?;
     }
@@ -132,16 +117,15 @@ fn retire<B: Bank>(rt: &HostRuntime, bank: &mut B) -> io::Result<()>
     requires { B.Bank.standing bank.old }
 {
     match run(rt.alloc(), Rendezvous, bank, 3, 2, &CALLS, Ending::Close) {
-        Ok(ran) => {
-            let Ran { answers, end } = ran;
-            let statement = closing(end);
+        Ok(Ran { answers, end }) => {
+            let statement = end.statement();
             print_answers(rt, answers.as_slice())?;
             print_end(rt, bank, statement)
         }
-        Err(Unrun::Refused(kept)) => {
-            let Kept { fault, service: _ } = kept;
-            println!(rt; "refused {}", fault.number())
-        }
+        Err(Unrun::Refused(Kept { fault, service: _ })) => println!(rt;
+            "refused {}",
+            fault.number()
+        ),
         Err(Unrun::NoMemory(_)) => println!(rt; "no memory"),
     }
 }

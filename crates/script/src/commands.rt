@@ -1,8 +1,9 @@
-// What the lines of a script say.
-ghost use Rattle.std.specs.Result.{MatchResult};
+// What the lines of a script say. Each clause names its own form of the rest: a word over them would spare `place_of` alone.
+ghost use Rattle.std.specs.Prelude.{[], ◌∷◌, MatchResult};
 ghost use Rattle.grammar.specs.Faults.{place_of};
+ghost use Rattle.grammar.specs.Slots.{number};
 ghost use Rattle.grammar.specs.Lines.{Gives, Legal, GivesOpening, LegalOpening, Refuses};
-ghost use Rattle.grammar.specs.Reading.{Completes, form, CompletesOpening, opening_form, RestFault};
+ghost use Rattle.grammar.specs.Reading.{Triple, Completes, form, CompletesOpening, opening_form, RestFault};
 
 use crate::reader::Reader;
 use entry::calibration::Calibration;
@@ -10,40 +11,34 @@ use entry::reading::Reading;
 use grammar::command::{Command, Verb};
 use grammar::fault::LineFault;
 use grammar::opening::{Keyword, Opening};
+use words::Spelled;
 
-// A key and a calibration.
-fn calibration(r: &mut Reader) -> Result<Command, LineFault>
-    ensures { MatchResult result (Completes Verb.Cal r.old.line.now r.old.at) (λ f. RestFault (form Verb.Cal) r.old.line.now r.old.number r.old.at (place_of f)) }
+// The last three words of a line: two numbers, and a word of some sort.
+fn triple<T: Spelled + Drop>(r: &mut Reader) -> Result<(u64, u64, T), LineFault>
+    ensures { MatchResult result (Triple T.spells r.old.line.text.now r.old.at) (λ f. RestFault (number ∷ number ∷ T.slot ∷ []) r.old.line.text.now r.old.line.number r.old.at (place_of f)) }
 {
-    let key = r.next()?;
-    let firmware = r.next()?;
-    let factor = r.last()?;
-    Ok(Command::Cal {
-        key,
-        entry: Calibration { firmware, factor },
-    })
+    Ok((r.next()?, r.next()?, r.last()?))
 }
 
-// A key and a reading.
-fn reading(r: &mut Reader) -> Result<Command, LineFault>
-    ensures { MatchResult result (Completes Verb.Read r.old.line.now r.old.at) (λ f. RestFault (form Verb.Read) r.old.line.now r.old.number r.old.at (place_of f)) }
-{
-    let key = r.next()?;
-    let millilitres = r.next()?;
-    let state = r.last()?;
-    Ok(Command::Read {
-        key,
-        entry: Reading { millilitres, state },
-    })
-}
-
-// What follows a verb.
+// What follows a verb: one case for each, as the grammar has them.
 fn behind(r: &mut Reader, verb: Verb) -> Result<Command, LineFault>
-    ensures { MatchResult result (Completes verb r.old.line.now r.old.at) (λ f. RestFault (form verb) r.old.line.now r.old.number r.old.at (place_of f)) }
+    ensures { MatchResult result (Completes verb r.old.line.text.now r.old.at) (λ f. RestFault (form verb) r.old.line.text.now r.old.line.number r.old.at (place_of f)) }
 {
     match verb {
-        Verb::Cal => calibration(r),
-        Verb::Read => reading(r),
+        Verb::Cal => {
+            let (key, firmware, factor) = triple(r)?;
+            Ok(Command::Cal {
+                key,
+                entry: Calibration { firmware, factor },
+            })
+        }
+        Verb::Read => {
+            let (key, millilitres, state) = triple(r)?;
+            Ok(Command::Read {
+                key,
+                entry: Reading { millilitres, state },
+            })
+        }
         Verb::Get => Ok(Command::Get { key: r.last()? }),
         Verb::Del => Ok(Command::Del { key: r.last()? }),
         Verb::Join => Ok(Command::Join { store: r.last()? }),
@@ -66,7 +61,7 @@ pub fn read_command(line: &[u8], number: usize) -> Result<Command, LineFault>
 
 // What follows the keyword of the first line.
 fn cluster(r: &mut Reader) -> Result<Opening, LineFault>
-    ensures { MatchResult result (CompletesOpening r.old.line.now r.old.at) (λ f. RestFault opening_form r.old.line.now r.old.number r.old.at (place_of f)) }
+    ensures { MatchResult result (CompletesOpening r.old.line.text.now r.old.at) (λ f. RestFault opening_form r.old.line.text.now r.old.line.number r.old.at (place_of f)) }
 {
     let stores = r.next()?;
     let members = r.next()?;
@@ -85,6 +80,7 @@ fn cluster(r: &mut Reader) -> Result<Opening, LineFault>
 }
 
 // The opening that the first line gives, or the place where it stops beginning a legal one.
+// To share these three lines with `read_command`, a trait would take two types, two relations and three laws.
 pub fn read_opening(line: &[u8], number: usize) -> Result<Opening, LineFault>
     ensures { MatchResult result (GivesOpening line.now) (Refuses LegalOpening number line.now) }
 {

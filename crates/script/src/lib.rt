@@ -2,5 +2,6 @@
 #![tactic(auto)]
 
 pub mod commands;
+mod cuts;
 pub mod lines;
 pub mod reader;

@@ -1,11 +1,13 @@
 -- The books of services, and what their calls hand back, in the machine's terms.
 use Rattle.std.specs.Prelude.{ℕ, List, Some, None, Ok, Err, Option, Result}
+use Rattle.placement.specs.declared.roster.Roster.{Roster}
 use Rattle.placement.specs.Rosters.{members}
 use Rattle.store.specs.Meaning.{Meaning}
 use Rattle.machine.specs.declared.answer.Moved.{Moved}
 use Rattle.machine.specs.declared.fault.Fault.{Fault}
-use Rattle.machine.specs.Books.{Move, Book, key_moved, change_done}
-use Rattle.machine.specs.Statements.{cursor_of}
+use Rattle.machine.specs.Books.{Move, Book, change_opened, key_moved, change_done}
+use Rattle.machine.specs.Outcomes.{Outcome, accept, refuse}
+use Rattle.machine.specs.Statements as statements
 use Rattle.machine.specs.Lent.{Lent}
 use Rattle.serving.specs.Calls.{over}
 use Rattle.service.specs.declared.states.Settled.{Settled}
@@ -19,10 +21,21 @@ abbrev pub settled_book : {P : Type 0} → Settled P → Book
 settled_book s = record { stores = s.roster.stores; copies = s.copies; roster = members s.roster; change = None; copied = s.copied }
 
 abbrev pub move_of : {P : Type 0} → Moving P → Move
-move_of m = record { target = members m.target; cursor = cursor_of m.cursor; store = m.store }
+move_of m = statements.move_of m.change
 
 abbrev pub moving_book : {P : Type 0} → Moving P → Book
-moving_book m = record { stores = m.roster.stores; copies = m.copies; roster = members m.roster; change = Some (move_of m); copied = m.copied }
+moving_book m = record {
+  stores = m.settled.roster.stores;
+  copies = m.settled.copies;
+  roster = members m.settled.roster;
+  change = Some (move_of m);
+  copied = m.settled.copied;
+}
+
+-- an opening with a roster and a number of copies, or its refusal
+abbrev pub opened_with : List Meaning → ℕ → Result Roster Fault → Result Lent Fault
+opened_with st r (Ok roster) = Ok (over st (record { stores = roster.stores; copies = r; roster = members roster; change = None; copied = 0 }))
+opened_with st r (Err f) = Err f
 
 -- what an opening handed back: a service over the stores, or a refusal with the placement
 abbrev pub opened : {P : Type 0} → List Meaning → Result (Settled P) (Kept P) → Result Lent Fault
@@ -33,9 +46,14 @@ abbrev pub opened_placement : {P : Type 0} → Result (Settled P) (Kept P) → P
 opened_placement (Ok s) = s.placement
 opened_placement (Err k) = k.service
 
+-- a change of a store to a target that opens over a service, or its refusal
+abbrev pub changed : {P : Type 0} → List Meaning → Settled P → ℕ → Result Roster Fault → Outcome Lent ℕ
+changed st s store (Ok target) = accept store (over st (change_opened (settled_book s) (members target) store))
+changed st s store (Err f) = refuse (over st (settled_book s)) f
+
 -- what a join or a leave handed back: a service in a change of a store, or a refusal with the service as it was
 abbrev pub changing : {P : Type 0} → Result (Moving P) (Kept (Settled P)) → Result ℕ Fault
-changing (Ok m) = Ok m.store
+changing (Ok m) = Ok m.change.store
 changing (Err k) = Err k.fault
 
 abbrev pub changing_book : {P : Type 0} → Result (Moving P) (Kept (Settled P)) → Book
@@ -43,7 +61,7 @@ changing_book (Ok m) = moving_book m
 changing_book (Err k) = settled_book k.service
 
 abbrev pub changing_placement : {P : Type 0} → Result (Moving P) (Kept (Settled P)) → P
-changing_placement (Ok m) = m.placement
+changing_placement (Ok m) = m.settled.placement
 changing_placement (Err k) = k.service.placement
 
 -- what a step handed back
@@ -59,8 +77,8 @@ stepping_book (Err k) = moving_book k.service
 
 abbrev pub stepping_placement : {P : Type 0} → Result (Stepped P) (Kept (Moving P)) → P
 stepping_placement (Ok (stepped.Done s)) = s.placement
-stepping_placement (Ok (stepped.Onward d m)) = m.placement
-stepping_placement (Err k) = k.service.placement
+stepping_placement (Ok (stepped.Onward d m)) = m.settled.placement
+stepping_placement (Err k) = k.service.settled.placement
 
 -- the book after a step with a result
 abbrev pub book_after : Book → Move → Result (Option Moved) Fault → Book
@@ -74,10 +92,6 @@ settled_closed s = record { placement = s.placement; statement = record { roster
 
 abbrev pub moving_closed : {P : Type 0} → Moving P → Closed P
 moving_closed m = record {
-  placement = m.placement;
-  statement = record {
-    roster = m.roster;
-    change = Some (record { target = m.target; cursor = m.cursor; store = m.store });
-    copied = m.copied;
-  };
+  placement = m.settled.placement;
+  statement = record { roster = m.settled.roster; change = Some m.change; copied = m.settled.copied };
 }

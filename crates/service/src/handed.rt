@@ -10,7 +10,7 @@ pub struct Kept<S> {
     pub service: S,
 }
 
-// What a step gives back: the change is done, or a key has moved.
+// What a step gives back: the change is done, or a key has moved. An enum, since the service is of another type in each.
 pub enum Stepped<P> {
     Done(Settled<P>),
     Onward(Moved, Moving<P>),

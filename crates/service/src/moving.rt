@@ -11,53 +11,45 @@ use crate::states::{Moving, Settled};
 use bank::Bank;
 use machine::answer::Moved;
 use machine::fault::Fault;
-use machine::statement::{Change, Cursor, Statement};
+use machine::statement::Cursor;
 use placement::placing::Placement;
 use placement::roster::Roster;
-use serving::Serving;
+use serving::{Serving, all_lent};
 use walks::{carry, lowest, outside, read};
 
 // The cursor behind a key.
 fn behind(key: u64) -> Cursor
     ensures { cursor_of result ≡ key + 1 }
 {
-    if key == u64::MAX {
-        Cursor::Past
-    } else {
-        Cursor::At(key + 1)
-    }
+    key.checked_add(1).map_or(Cursor::Past, Cursor::At)
 }
 
 // The count of copies after a move: one more where a store gained the key.
 fn tally(copied: u64, gained: Option<usize>) -> u64
     ensures { result ≡ counted gained copied }
 {
-    match gained {
-        None => copied,
-        Some(_) => copied.wrapping_add(1),
-    }
+    copied.wrapping_add(gained.is_some() as u64)
 }
 
 impl<P: Placement> Serving for Moving<P> {
-    ghost rule = { λ m. P.Placement.rule m.placement };
+    ghost rule = { λ m. P.Placement.rule m.settled.placement };
 
     ghost book = { λ m. moving_book m };
 
     fn stores(&self) -> usize {
-        self.roster.stores()
+        self.settled.roster.stores()
     }
 
     // Under the target below the cursor, else under the roster.
     fn list(&self, key: u64) -> Roster {
-        let moved = match self.cursor {
-            Cursor::Past => true,
-            Cursor::At(cursor) => key < cursor,
-        };
-        if moved {
-            self.placement.list(key, &self.target, self.copies)
+        let roster = if Cursor::At(key) < self.change.cursor {
+            &self.change.target
         } else {
-            self.placement.list(key, &self.roster, self.copies)
-        }
+            &self.settled.roster
+        };
+        self.settled
+            .placement
+            .list(key, roster, self.settled.copies)
     }
 }
 
@@ -66,20 +58,17 @@ impl<P: Placement> Moving<P> {
     fn advance<B: Bank>(&self, bank: &mut B) -> Result<Option<Moved>, Fault>
         requires { B.Bank.standing bank.old }
         ensures stands { B.Bank.standing bank.new }
-        ensures steps { Gives (lent.step (P.Placement.rule self.now.placement) (over (B.Bank.stores bank.old) (moving_book self.now))) result (over (B.Bank.stores bank.new) (book_after (moving_book self.now) (move_of self.now) result)) }
+        ensures steps { Gives (lent.step (P.Placement.rule self.now.settled.placement) (over (B.Bank.stores bank.old) (moving_book self.now))) result (over (B.Bank.stores bank.new) (book_after (moving_book self.now) (move_of self.now) result)) }
         ensures beyond_untouched { B.Bank.beyond bank.new ≡ B.Bank.beyond bank.old }
     {
-        if bank.len() != self.roster.stores() {
-            return Err(Fault::OtherStores);
-        }
-        let Some(key) = lowest(bank, &self.roster, &self.target, self.cursor) else {
+        let Moving { settled, change } = self;
+        all_lent(self, bank)?;
+        let Some(key) = lowest(bank, &settled.roster, &change.target, change.cursor) else {
             return Ok(None);
         };
-        let old = self.placement.list(key, &self.roster, self.copies);
-        let new = self.placement.list(key, &self.target, self.copies);
-        let Some(value) = read(bank, &old, key) else {
-            return Err(Fault::Lacks(key));
-        };
+        let old = settled.placement.list(key, &settled.roster, settled.copies);
+        let new = settled.placement.list(key, &change.target, settled.copies);
+        let value = read(bank, &old, key).ok_or(Fault::Lacks(key))?;
         let moved = Moved {
             key,
             gained: outside(&new, &old),
@@ -92,55 +81,31 @@ impl<P: Placement> Moving<P> {
     pub fn step<B: Bank>(self, bank: &mut B) -> Result<Stepped<P>, Kept<Moving<P>>>
         requires { B.Bank.standing bank.old }
         ensures stands { B.Bank.standing bank.new }
-        ensures steps { Gives (lent.step (P.Placement.rule self.placement) (over (B.Bank.stores bank.old) (moving_book self))) (stepping result) (over (B.Bank.stores bank.new) (stepping_book result)) }
-        ensures placement_kept { stepping_placement result ≡ self.placement }
+        ensures steps { Gives (lent.step (P.Placement.rule self.settled.placement) (over (B.Bank.stores bank.old) (moving_book self))) (stepping result) (over (B.Bank.stores bank.new) (stepping_book result)) }
+        ensures placement_kept { stepping_placement result ≡ self.settled.placement }
         ensures beyond_untouched { B.Bank.beyond bank.new ≡ B.Bank.beyond bank.old }
     {
+        // Each arm takes the service: a closure for `map_err` would take it from the other.
         match self.advance(bank) {
             Err(fault) => Err(Kept {
                 fault,
                 service: self,
             }),
             Ok(None) => {
-                let Moving {
-                    placement,
-                    copies,
-                    roster: _,
-                    target,
-                    cursor: _,
-                    store: _,
-                    copied,
-                } = self;
+                let Moving { settled, change } = self;
                 Ok(Stepped::Done(Settled {
-                    placement,
-                    copies,
-                    roster: target,
-                    copied,
+                    roster: change.target,
+                    ..settled
                 }))
             }
             Ok(Some(moved)) => {
                 let Moving {
-                    placement,
-                    copies,
-                    roster,
-                    target,
-                    cursor: _,
-                    store,
-                    copied,
+                    mut settled,
+                    mut change,
                 } = self;
-                let copied = tally(copied, moved.gained);
-                Ok(Stepped::Onward(
-                    moved,
-                    Moving {
-                        placement,
-                        copies,
-                        roster,
-                        target,
-                        cursor: behind(moved.key),
-                        store,
-                        copied,
-                    },
-                ))
+                settled.copied = tally(settled.copied, moved.gained);
+                change.cursor = behind(moved.key);
+                Ok(Stepped::Onward(moved, Moving { settled, change }))
             }
         }
     }
@@ -149,36 +114,18 @@ impl<P: Placement> Moving<P> {
 impl<P> Moving<P> {
     // The store that joins or leaves.
     pub fn store(&self) -> usize
-        ensures { result ≡ self.now.store }
+        ensures { result ≡ self.now.change.store }
     {
-        self.store
+        self.change.store
     }
 
     // Ends the service in its change, which the statement names.
     pub fn close(self) -> Closed<P>
         ensures { result ≡ moving_closed self }
     {
-        let Moving {
-            placement,
-            copies: _,
-            roster,
-            target,
-            cursor,
-            store,
-            copied,
-        } = self;
-        let change = Change {
-            target,
-            cursor,
-            store,
-        };
-        Closed {
-            placement,
-            statement: Statement {
-                roster,
-                change: Some(change),
-                copied,
-            },
-        }
+        let Moving { settled, change } = self;
+        let mut closed = settled.close();
+        closed.statement.change = Some(change);
+        closed
     }
 }

@@ -1,10 +1,14 @@
 // The calls that a service takes in either state: they reach the stores of one key. Written once, for whatever serves.
+//
+// That the bank is standing is the one premise of each call, so each contract says it, and that a write leaves it so.
+// A bank is lent to one call at a time and held by nothing, so service, bank and key come beside one another.
 #![tactic(auto)]
 
-ghost use Rattle.std.specs.Prelude.{◌≡◌};
+ghost use Rattle.std.specs.Prelude.{◌≡◌, ◌↔◌, length, IsOk, IfErr};
 ghost use Rattle.placement.specs.Laws.{Rule};
 ghost use Rattle.placement.specs.Rosters.{members};
 ghost use Rattle.machine.specs.Books.{Book, place};
+ghost use Rattle.machine.specs.declared.fault.Fault.TheVariants.{OtherStores};
 ghost use Rattle.machine.specs.Lent as lent;
 ghost use Rattle.serving.specs.Calls.{over, Gives};
 
@@ -31,14 +35,24 @@ pub trait Serving {
         ensures { members result ≡ place (rule self.now) (book self.now) key };
 }
 
+// Refused where a call is lent more stores than the service has, or fewer.
+pub fn all_lent<S: Serving, B: Bank>(service: &S, bank: &B) -> Result<(), Fault>
+    requires { B.Bank.standing bank.now }
+    ensures decides { IsOk result ↔ (length (B.Bank.stores bank.now) ≡ (S.Serving.book service.now).stores) }
+    ensures refuses { IfErr result (λ fault. fault ≡ OtherStores) }
+{
+    if bank.len() != service.stores() {
+        return Err(Fault::OtherStores);
+    }
+    Ok(())
+}
+
 // The value at a key, or none.
 pub fn get<S: Serving, B: Bank>(service: &S, bank: &B, key: u64) -> Result<Option<Value>, Fault>
     requires { B.Bank.standing bank.now }
     ensures { result ≡ (lent.get (S.Serving.rule service.now) (over (B.Bank.stores bank.now) (S.Serving.book service.now)) key).result }
 {
-    if bank.len() != service.stores() {
-        return Err(Fault::OtherStores);
-    }
+    all_lent(service, bank)?;
     Ok(walks::read(bank, &service.list(key), key))
 }
 
@@ -54,9 +68,7 @@ pub fn put<S: Serving, B: Bank>(
     ensures puts { Gives (lent.put (S.Serving.rule service.now) (over (B.Bank.stores bank.old) (S.Serving.book service.now)) key value) result (over (B.Bank.stores bank.new) (S.Serving.book service.now)) }
     ensures beyond_untouched { B.Bank.beyond bank.new ≡ B.Bank.beyond bank.old }
 {
-    if bank.len() != service.stores() {
-        return Err(Fault::OtherStores);
-    }
+    all_lent(service, bank)?;
     Ok(walks::put(bank, &service.list(key), key, value)?)
 }
 
@@ -67,9 +79,7 @@ pub fn remove<S: Serving, B: Bank>(service: &S, bank: &mut B, key: u64) -> Resul
     ensures removes { Gives (lent.remove (S.Serving.rule service.now) (over (B.Bank.stores bank.old) (S.Serving.book service.now)) key) result (over (B.Bank.stores bank.new) (S.Serving.book service.now)) }
     ensures beyond_untouched { B.Bank.beyond bank.new ≡ B.Bank.beyond bank.old }
 {
-    if bank.len() != service.stores() {
-        return Err(Fault::OtherStores);
-    }
+    all_lent(service, bank)?;
     Ok(walks::remove(bank, &service.list(key), key))
 }
 
@@ -98,8 +108,8 @@ pub fn get_entry<S: Serving, E: Entry, B: Bank>(
     requires { B.Bank.standing bank.now }
     ensures { result ≡ (lent.get_entry (S.Serving.rule service.now) E.Entry.kind (over (B.Bank.stores bank.now) (S.Serving.book service.now)) key).result }
 {
-    match get(service, bank, key)? {
-        None => Ok(None),
-        Some(value) => Ok(Some(E::decode(value)?)),
-    }
+    let Some(value) = get(service, bank, key)? else {
+        return Ok(None);
+    };
+    Ok(Some(E::decode(value)?))
 }

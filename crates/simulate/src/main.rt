@@ -11,9 +11,7 @@ const ENOUGH: u64 = 16385;
 fn main(rt: HostRuntime) -> anyhow::Result<()> {
     let mut script = Vec::new(rt.alloc());
     rt.stdin().take(ENOUGH).read_to_end(&mut script)?;
-    match simulate(rt.alloc(), script.as_slice()) {
-        Ok(text) => rt.print(text)?,
-        Err(_) => return Err(anyhow!("out of memory")),
-    }
+    let text = simulate(rt.alloc(), script.as_slice()).map_err(|_| anyhow!("out of memory"))?;
+    rt.print(text)?;
     Ok(())
 }

@@ -12,26 +12,17 @@ const SEPARATOR: u8 = 30;
 // Runs the script with a number.
 fn run(rt: &HostRuntime, number: usize, script: &[u8]) -> anyhow::Result<()> {
     println!(rt; "script {number}")?;
-    match simulate(rt.alloc(), script) {
-        Ok(text) => rt.print(text)?,
-        Err(_) => return Err(anyhow!("out of memory")),
-    }
+    let text = simulate(rt.alloc(), script).map_err(|_| anyhow!("out of memory"))?;
+    rt.print(text)?;
     Ok(())
 }
 
 fn main(rt: HostRuntime) -> anyhow::Result<()> {
     let mut input = Vec::new(rt.alloc());
     rt.stdin().read_to_end(&mut input)?;
-    let mut script = Vec::new(rt.alloc());
-    let mut number: usize = 1;
-    for byte in input.iter() {
-        if *byte == SEPARATOR {
-            run(&rt, number, script.as_slice())?;
-            number = number.saturating_add(1);
-            script.clear();
-        } else {
-            script.push(*byte)?;
-        }
+    let scripts = input.split(|byte| *byte == SEPARATOR);
+    for (place, script) in scripts.enumerate() {
+        run(&rt, place + 1, script)?;
     }
-    run(&rt, number, script.as_slice())
+    Ok(())
 }

@@ -1,13 +1,11 @@
 -- A script that does not run prints its refusal.
-use Rattle.std.proofs.Common.{◌≡◌, ℕ, Bool, true, false, List, IfOk, Some, Ok, Err, string_bytes, MatchBool, Result, String, sym, subst, arith, MatchResult}
-use Rattle.std.specs.declared.alloc.Global.{Global}
+use Rattle.std.proofs.Common.{◌≡◌, ℕ, Bool, true, false, List, Some, Ok, Err, MatchBool, sym, subst, arith, MatchResult}
 use Rattle.placement.specs.Policies.{rule_of}
 use Rattle.grammar.specs.Lines.{lines_of}
 use Rattle.transcript.specs.declared.fault.RunFault.{RunFault}
 use Rattle.transcript.specs.declared.fault.RunFault.TheVariants.{TooLong, Line, Service, Memory}
 use Rattle.transcript.specs.Texts.{row_text}
 use Rattle.transcript.specs.Sessions.{Runs, RefusedWith, later_lines, Transcript}
-use Rattle.simulation.specs.declared.OutOfMemory.{OutOfMemory}
 use Rattle.simulation.specs.Ends.{Fails, Prints}
 
 short : (b : Bool) (P Q : Type 0) → b ≡ false → Q → MatchBool b P Q
@@ -33,7 +31,3 @@ failed script out (Service f) (e, (o, h)) s =
           (numbered (λ n. out ≡ row_text n (Err (Service f))) s.line 1 (sym s.numbered) s.text);
     })
 failed script out Memory h s = let z : ◌≡◌ {A = ℕ} 0 1 = cc s.numbered in absurd (omega arith)
-
-pub refused_text : (script : List ℕ) (f : RunFault) (r : Result (String Global) OutOfMemory) → Fails script f → IfOk r (λ s. Prints f (string_bytes s)) → IfOk r (λ s. Transcript script (string_bytes s))
-refused_text script f (Ok s) h p = failed script (string_bytes s) f h p
-refused_text script f (Err e) h p = p

@@ -1,5 +1,6 @@
 -- The machine of an opening, and a run over the first of sixteen empty stores.
-use Rattle.std.proofs.Common.{◌≡◌, ℕ, zero, suc, ◌<◌, ◌≤◌, ◌&&◌, leb, List, ◌∷◌, ◌++◌, length, take, replicate, Ok, Err, vec_items, sym, refl, ap, ◌∙◌, subst, ⊎_elim, arith, MatchResult}
+use Rattle.std.proofs.Common.{◌≡◌, ℕ, zero, suc, ◌<◌, ◌≤◌, ◌&&◌, leb, List, ◌∷◌, ◌++◌, length, take, replicate, Ok, Err, vec_items, sym, refl, ap, ◌∙◌, subst, ⊎_elim, arith, MatchResult, Result}
+use Rattle.std.specs.Result.{IsErrAnd}
 use lib.ListN.{length-replicate}
 use Rattle.std.proofs.lemmas.Bool.{cond-true, cond-false, cases_lt}
 use Rattle.std.proofs.lemmas.Bool.Decides.{nat_tests}
@@ -22,8 +23,6 @@ use Rattle.cluster.specs.declared.runs.Unrun.{Unrun}
 use Rattle.cluster.specs.declared.runs.Unrun.TheVariants.{Refused, NoMemory}
 use Rattle.cluster.specs.Runs.{RanAs, UnrunAs, EndsAs, start}
 use Rattle.grammar.specs.declared.opening.Opening.{Opening}
-use Rattle.transcript.specs.declared.fault.RunFault.{RunFault}
-use Rattle.transcript.specs.declared.fault.RunFault.TheVariants.{Memory}
 use Rattle.transcript.specs.declared.report.Report.TheVariants.{Ready}
 use Rattle.transcript.specs.Texts.{row_text, counts_text, closing_text}
 use Rattle.transcript.specs.Sessions.{Row, session_text, machine_of}
@@ -31,6 +30,13 @@ use Rattle.transcript.specs.Woven.{calls_of, woven, counts_of}
 use Rattle.transcript.proofs.Ends.{counts_are_loads, whole_text}
 use Rattle.simulation.specs.Vacant.{vacant}
 use Rattle.simulation.specs.Ends.{Served, Ended, Unopened, statement_in, run_fault}
+
+-- an outcome whose error was made into another
+pub mapped : {T E D : Type 0} (r : Result T E) (m : Result T D) (P : T → Type 0) (Q : E → Type 0) (made : E → D → Type 0) →
+    MatchResult r P Q → MatchResult r (λ x. m ≡ Ok x) (λ e. IsErrAnd m (made e)) → MatchResult m P (λ d. (e : E) × (Q e × made e d))
+mapped (Ok x) m P Q made p e = subst (λ m. MatchResult m P (λ d. (e : _) × (Q e × made e d))) (sym e) p
+mapped (Err e) (Ok y) P Q made q h = absurd h
+mapped (Err e) (Err d) P Q made q h = (e, (q, h))
 
 take_replicate : {A : Type 0} (n k : ℕ) (x : A) → n ≤ k → take n (replicate k x) ≡ replicate n x
 take_replicate zero k x h = refl
@@ -92,6 +98,3 @@ stores_refused o h = ⊎_elim (λ (l : o.cap < 1). cap_refused o (λ a b. omega 
   where
     many : one.opening (rule_of o.policy) (replicate o.stores o.cap) o.members o.copies ≡ Err BeyondLimit
     many = let long = length-replicate o.stores o.cap in cond-false (one.within_limits (rule_of o.policy) (length (replicate o.stores o.cap)) o.members o.copies) _ _ (grind (arith, nat_tests))
-
-pub no_memory : (o : Opening) (f : RunFault) → f ≡ Memory → Unopened o f
-no_memory o f e = subst (Unopened o) (sym e) tt

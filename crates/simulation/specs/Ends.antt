@@ -3,12 +3,9 @@ use Rattle.std.specs.Prelude.{◌≡◌, ℕ, ◌≤◌, true, false, ltb, List,
 use Rattle.placement.specs.Policies.{rule_of}
 use Rattle.grammar.specs.declared.opening.Opening.{Opening}
 use Rattle.grammar.specs.Lines.{GivesOpening, LegalOpening, Refuses, lines_of}
-use Rattle.machine.specs.declared.statement.Statement.{Statement}
-use Rattle.holder.specs.Books.{service_closed}
 use Rattle.cluster.specs.declared.runs.Unrun.{Unrun}
 use Rattle.cluster.specs.declared.runs.Unrun.TheVariants.{Refused, NoMemory}
-use Rattle.cluster.specs.declared.runs.End.{End}
-use Rattle.cluster.specs.declared.runs.End.TheVariants as end
+pub use Rattle.cluster.specs.Runs.{statement_in}
 use Rattle.transcript.specs.declared.fault.RunFault.{RunFault}
 use Rattle.transcript.specs.declared.fault.RunFault.TheVariants.{TooLong, Line, Service, Memory}
 use Rattle.transcript.specs.declared.report.Report.TheVariants.{Ready}
@@ -48,11 +45,6 @@ Fails script Memory = Unit {0}
 pub record Passes (script out : List ℕ) : Type 0 where
   pub short : ltb longest_script (length script) ≡ false
   pub session : Session (lines_of script) out
-
--- what is said at the end of a run, closed already or only then
-abbrev pub statement_in : {P : Type 0} → End P → Statement
-statement_in (end.Open s) = (service_closed s).statement
-statement_in (end.Closed c) = c.statement
 
 -- why nothing ran, as a fault of the run
 abbrev pub run_fault : {P : Type 0} → Unrun P → RunFault

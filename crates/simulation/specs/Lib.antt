@@ -1,2 +1,3 @@
 pub mod Vacant
 pub mod Ends
+pub mod Rooms

@@ -15,7 +15,6 @@ use reading::read_rows;
 use script::commands::read_opening;
 use script::lines::Lines;
 use std::alloc::Global;
-use std::fmt;
 use transcript::fault::RunFault;
 use transcript::rows::write_row;
 
@@ -32,11 +31,11 @@ fn run_script(heap: Global, script: &[u8]) -> Result<String, RunFault>
     let mut lines = Lines::new(script);
     let first = lines.next().unwrap_or(&[]);
     let opening = read_opening(first, 1)?;
-    let rows = read_rows(heap, &mut lines)?;
+    let rows = read_rows(heap, lines)?;
     run_rows(heap, &opening, rows.as_slice())
 }
 
-// There is no memory for a run.
+// There is no memory for a run. It is no `AllocError`: a run that has no memory for its answers hands none on.
 #[derive(Clone, Copy)]
 pub struct OutOfMemory {}
 
@@ -46,8 +45,7 @@ fn refused_line(fault: &RunFault) -> Option<usize>
 {
     match fault {
         RunFault::TooLong => Some(0),
-        RunFault::Line(_) => Some(1),
-        RunFault::Service(_) => Some(1),
+        RunFault::Line(_) | RunFault::Service(_) => Some(1),
         RunFault::Memory => None,
     }
 }
@@ -56,22 +54,16 @@ fn refused_line(fault: &RunFault) -> Option<usize>
 fn refusal(heap: Global, fault: RunFault) -> Result<String, OutOfMemory>
     ensures { IfOk result (λ s. Prints fault (string_bytes s)) }
 {
+    let line = refused_line(&fault).ok_or(OutOfMemory {})?;
     let mut out = String::new(heap);
-    match refused_line(&fault) {
-        None => Err(OutOfMemory {}),
-        Some(line) => match write_row(&mut out, line, &Err(fault)) {
-            Ok(()) => Ok(out),
-            Err(_) => Err(OutOfMemory {}),
-        },
-    }
+    write_row(&mut out, line, &Err(fault)).map_err(|_| OutOfMemory {})?;
+    Ok(out)
 }
 
 // What a script prints, whatever its bytes are; or want of memory.
+#[tactic(auto, using(crate::proofs::Failures::failed))]
 pub fn simulate(heap: Global, script: &[u8]) -> Result<String, OutOfMemory>
     ensures { IfOk result (λ s. Transcript script.now (string_bytes s)) }
 {
-    match run_script(heap, script) {
-        Ok(text) => Ok(text),
-        Err(fault) => refusal(heap, fault),
-    }
+    run_script(heap, script).or_else(|fault| refusal(heap, fault))
 }

@@ -1,6 +1,5 @@
 // Reads a script into rows.
-ghost use Rattle.std.specs.Prelude.{◌≡◌, ◌≤◌, length, drop, MatchResult};
-ghost use Rattle.grammar.specs.Lines.{lines_of};
+ghost use Rattle.std.specs.Prelude.{◌≡◌, ◌≤◌, length, MatchResult};
 ghost use Rattle.transcript.specs.Sessions.{RowsRead, longest_script};
 
 use grammar::command::Command;
@@ -13,16 +12,14 @@ use transcript::fault::RunFault;
 // What the lines say that are left, the first of which has number 2.
 pub(crate) fn read_rows(
     heap: Global,
-    lines: &mut Lines,
+    lines: Lines,
 ) -> Result<Vec<Result<Command, LineFault>>, RunFault>
-    requires { length lines.old.text.now ≤ longest_script }
-    ensures { MatchResult result (λ v. RowsRead 2 (lines_of (drop lines.old.at lines.old.text.now)) v.items) (λ f. f ≡ RunFault.Memory) }
+    requires { length lines ≤ longest_script }
+    ensures { MatchResult result (λ v. RowsRead 2 lines.entry v.items) (λ f. f ≡ RunFault.Memory) }
 {
     let mut rows = Vec::new(heap);
-    let mut number = 2;
-    while let Some(line) = lines.next() {
+    for (number, line) in (2..).zip(lines) {
         rows.push(read_command(line, number))?;
-        number += 1;
     }
     Ok(rows)
 }

@@ -1,16 +1,16 @@
 // Runs the calls of a script over a bank, and writes the transcript.
-ghost use Rattle.std.specs.Prelude.{◌≡◌, ◌++◌, replicate, Ok as Okay, string_bytes, MatchResult, OnOk};
+ghost use Rattle.std.specs.Prelude.{◌≡◌, ◌++◌, replicate, Ok as Okay, string_bytes, IfOk, MatchResult, OnOk};
 ghost use Rattle.machine.specs.Statements.{closing_of};
 ghost use Rattle.transcript.specs.Texts.{row_text, counts_text, closing_text};
 ghost use Rattle.transcript.specs.Woven.{calls_of, woven, counts_of};
 ghost use Rattle.transcript.specs.declared.report.Report.TheVariants.{Ready as Started};
-ghost use Rattle.simulation.specs.Ends.{Served, Ended, Unopened, statement_in, run_fault};
+ghost use Rattle.simulation.specs.Ends.{Served, Ended, Unopened, run_fault};
 ghost use Rattle.simulation.specs.Vacant.{vacant};
 
 use bank::Bank;
 use bank::first::First;
 use cluster::run;
-use cluster::runs::{End, Ending, Ran, Unrun};
+use cluster::runs::{Ending, Ran, Unrun};
 use grammar::command::Command;
 use grammar::fault::LineFault;
 use grammar::opening::Opening;
@@ -19,32 +19,28 @@ use machine::call::Call;
 use machine::statement::Statement;
 use placement::policies::Policy;
 use service::handed::Kept;
-use std::alloc::Global;
-use std::fmt;
+use std::alloc::{AllocError, Global};
 use std::fmt::Write;
 use transcript::fault::RunFault;
 use transcript::report::Report;
 use transcript::rows::{write_closing, write_row, write_rows};
 
 // The calls that the commands among some rows make.
-fn calls_in(heap: Global, rows: &[Result<Command, LineFault>]) -> Result<Vec<Call>, RunFault>
-    ensures { MatchResult result (λ v. v.items ≡ calls_of rows.now) (λ f. f ≡ RunFault.Memory) }
+fn calls_in(heap: Global, rows: &[Result<Command, LineFault>]) -> Result<Vec<Call>, AllocError>
+    ensures { IfOk result (λ v. v.items ≡ calls_of rows.now) }
 {
-    let mut calls = Vec::new(heap);
-    for row in rows.iter() {
-        match row {
-            Ok(command) => calls.push(command.call())?,
-            Err(_) => {}
-        }
-    }
-    Ok(calls)
+    rows.iter()
+        .filter_map(|row| (*row).ok().map(Call::from))
+        .collect(heap)
 }
 
 // Writes how many pairs each store of a bank holds.
-fn write_counts<B: Bank>(out: &mut String, bank: &B) -> fmt::Result
+#[tactic(auto, using(transcript::proofs::Ends::counts_all))]
+fn write_counts<B: Bank>(out: &mut String, bank: &B) -> Result<(), AllocError>
     requires { B.Bank.standing bank.now }
     ensures { OnOk result (string_bytes out.new ≡ string_bytes out.old ++ counts_text 0 (counts_of (B.Bank.stores bank.now))) }
 {
+    // The numbers themselves are printed, and a bank hands out no list of its stores.
     for store in 0..bank.len() {
         let count = bank.count(store);
         writeln!(out, "store {store} {count}")?;
@@ -52,18 +48,18 @@ fn write_counts<B: Bank>(out: &mut String, bank: &B) -> fmt::Result
     Ok(())
 }
 
-// Writes the transcript of a script whose calls have run.
+// Writes the transcript of a script whose calls have run. A function and no type that is displayed, as what it calls: it
+// writes from several values, and from a bank that has to be asked.
+#[tactic(auto, using(std::proofs::Common::append_assoc))]
 fn write_session<B: Bank>(
     heap: Global,
     rows: &[Result<Command, LineFault>],
     answers: &[Answer],
     bank: &B,
     statement: &Statement,
-) -> Result<String, RunFault>
+) -> Result<String, AllocError>
     requires { B.Bank.standing bank.now }
-    ensures { MatchResult result
-        (λ s. string_bytes s ≡ row_text 1 (Okay Started) ++ (woven 2 rows.now answers.now ++ (counts_text 0 (counts_of (B.Bank.stores bank.now)) ++ closing_text (closing_of statement.now))))
-        (λ f. f ≡ RunFault.Memory) }
+    ensures { IfOk result (λ s. string_bytes s ≡ row_text 1 (Okay Started) ++ (woven 2 rows.now answers.now ++ (counts_text 0 (counts_of (B.Bank.stores bank.now)) ++ closing_text (closing_of statement.now)))) }
 {
     let mut out = String::new(heap);
     write_row(&mut out, 1, &Ok(Report::Ready))?;
@@ -73,30 +69,18 @@ fn write_session<B: Bank>(
     Ok(out)
 }
 
-// What a service says at its end.
-fn statement_of(end: End<Policy>) -> Statement
-    ensures { result ≡ statement_in end }
-{
-    match end {
-        End::Closed(closed) => closed.statement,
-        End::Open(service) => service.close().statement,
-    }
-}
-
-// Why nothing ran.
+// Why nothing ran. No `From`, since both types are other crates'.
 fn fault_of(unrun: Unrun<Policy>) -> RunFault
     ensures { result ≡ run_fault unrun }
 {
     match unrun {
-        Unrun::Refused(kept) => {
-            let Kept { fault, service: _ } = kept;
-            RunFault::from(fault)
-        }
+        Unrun::Refused(Kept { fault, service: _ }) => RunFault::from(fault),
         Unrun::NoMemory(_) => RunFault::Memory,
     }
 }
 
-// Runs the rows over the first stores of a bank of sixteen, all of them empty.
+// Runs the rows over the first stores of a bank of sixteen, all of them empty. Heap, opening and rows
+// come from `run_rows` beside one another: a struct would lengthen every clause that speaks of two of them.
 pub(crate) fn run_session<B: Bank + Drop>(
     heap: Global,
     opening: &Opening,
@@ -115,7 +99,7 @@ pub(crate) fn run_session<B: Bank + Drop>(
     };
     let members = opening.members as usize;
     let copies = opening.copies as usize;
-    match run(
+    let ran = run(
         heap,
         opening.policy,
         &mut stores,
@@ -123,12 +107,8 @@ pub(crate) fn run_session<B: Bank + Drop>(
         copies,
         calls.as_slice(),
         Ending::Close,
-    ) {
-        Err(unrun) => Err(fault_of(unrun)),
-        Ok(ran) => {
-            let Ran { answers, end } = ran;
-            let statement = statement_of(end);
-            write_session(heap, rows, answers.as_slice(), &stores, &statement)
-        }
-    }
+    );
+    let Ran { answers, end } = ran.map_err(fault_of)?;
+    let statement = end.statement();
+    Ok(write_session(heap, rows, answers.as_slice(), &stores, &statement)?)
 }

@@ -1,5 +1,5 @@
 // One store over lent memory.
-ghost use Rattle.std.specs.Prelude.{◌≡◌, ◌≤◌, length};
+ghost use Rattle.std.specs.Prelude.{◌≡◌, ◌≤◌, cond, length};
 ghost use Rattle.simulation.specs.Vacant.{cells_for, bytes_for, even_store, odd_store, Fresh};
 
 use cells::Cell;
@@ -9,25 +9,13 @@ use layers::mixed::mark::Marked;
 use log_store::Log;
 use table::Table;
 
-// Which of the two a store with an even number is.
-pub(crate) fn even(kind: Kind) -> Marked
-    ensures { result ≡ even_store kind }
+// Which of the two a store is, by whether its number is even.
+pub(crate) fn mark(kind: Kind, even: bool) -> Marked
+    ensures { result ≡ cond even (even_store kind) (odd_store kind) }
 {
-    match kind {
-        Kind::Table => Marked::First,
-        Kind::Log => Marked::Second,
-        Kind::Mixed => Marked::First,
-    }
-}
-
-// Which of the two a store with an odd number is.
-pub(crate) fn odd(kind: Kind) -> Marked
-    ensures { result ≡ odd_store kind }
-{
-    match kind {
-        Kind::Table => Marked::First,
-        Kind::Log => Marked::Second,
-        Kind::Mixed => Marked::Second,
+    match (kind, even) {
+        (Kind::Table, _) | (Kind::Mixed, true) => Marked::First,
+        (Kind::Log, _) | (Kind::Mixed, false) => Marked::Second,
     }
 }
 

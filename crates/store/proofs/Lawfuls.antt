@@ -1,26 +1,12 @@
--- What the laws of a store give, and that the calls keep them.
-use Rattle.std.proofs.Common.{◌≡◌, ℕ, ◌+◌, ◌^◌, ◌<◌, ◌≤◌, true, cond, List, length, is_some, Some, None, Option, sym, refl, arith}
-use Rattle.std.proofs.lemmas.Bool.{true≢false, cond_both}
+-- The calls keep the laws of a store.
+use Rattle.std.proofs.Common.{◌≡◌, ℕ, ◌+◌, ◌≤◌, cond, List, length, arith}
+use Rattle.std.proofs.lemmas.Bool.{cond_both}
 use Rattle.std.proofs.lemmas.Bool.Decides.{nat_tests}
-use Rattle.pairs.specs.Pairs.{Pair, find, has, insert, erase, next_key}
-use Rattle.pairs.proofs.Maps.{insert_ascends, erase_ascends, insert_each, erase_each, length_insert, length_erase, next_present}
+use Rattle.pairs.specs.Pairs.{Pair, has, insert, erase}
+use Rattle.pairs.proofs.Maps.{insert_ascends, erase_ascends, insert_each, erase_each, length_insert, length_erase}
 use Rattle.store.specs.declared.value.Value.{Value}
 use Rattle.store.specs.Meaning.{FitsWords, Lawful, most}
 use Rattle.store.specs.Outcomes.{refuses, put_pairs}
-
--- keys that are held, and keys that `next` gives, fit 64 bits
-
-pub keys_fit : (ps : List (Pair Value)) (c k : ℕ) → Lawful ps c → has ps k ≡ true → k < 2 ^ 64
-keys_fit ps c k h e = by (find ps k) refl e
-  where
-    by : (o : Option Value) → find ps k ≡ o → is_some o ≡ true → k < 2 ^ 64
-    by None d t = absurd (true≢false (sym t))
-    by (Some v) d t = (h.words k v d).key_fits
-
-pub next_fits : (ps : List (Pair Value)) (c q k : ℕ) → Lawful ps c → next_key ps q ≡ Some k → k < 2 ^ 64
-next_fits ps c q k h e = keys_fit ps c k h (next_present ps q k e)
-
--- the calls keep the laws
 
 pub put_lawful : (ps : List (Pair Value)) (c k : ℕ) (v : Value) → Lawful ps c → FitsWords k v → Lawful (put_pairs ps c k v) c
 put_lawful ps c k v h f =

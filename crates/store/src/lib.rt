@@ -30,18 +30,14 @@ impl StoreFault {
     pub fn number(&self) -> u8
         ensures { result ≡ fault_number self.now }
     {
-        match self {
-            StoreFault::BeyondLimit => 2,
-            StoreFault::BadImage => 3,
-            StoreFault::Full => 4,
-            StoreFault::HoldsPair => 6,
-        }
+        *self as u8
     }
 }
 
 // A finite map of limited size. Each call presumes that the store is standing, which means: made by
 // its opening where the opening's check accepts, and changed since by these calls alone. Each call
 // keeps it standing, and none changes the cap.
+// The standing is a call's one premise, so each contract states it; `key` and `value` are what a call is about.
 pub trait Store {
     // The pairs held, by ascending key.
     ghost pairs: { Self → List (Pair Value) };

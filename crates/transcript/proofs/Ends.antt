@@ -1,6 +1,6 @@
 -- The end of a transcript, and its whole, from a run's answers and stores.
-use Rattle.std.proofs.Common.{◌≡◌, ℕ, zero, suc, ◌+◌, ◌<◌, ◌≤◌, List, [], ◌∷◌, ◌++◌, map, length, get_or, drop, Ok, Err, sym, refl, ap, ◌∙◌, subst, append_assoc, arith}
-use Rattle.std.proofs.lemmas.List.{drop_more, drop_all}
+use Rattle.std.proofs.Common.{◌≡◌, ℕ, zero, suc, ◌+◌, ◌<◌, ◌≤◌, List, [], ◌∷◌, ◌++◌, map, length, drop, Ok, Err, sym, refl, ap, ◌∙◌, subst, append_assoc, arith}
+use Rattle.std.proofs.lemmas.List.{drop_all}
 use Rattle.lists.specs.Numbers.{count_up}
 use Rattle.placement.specs.Laws.{Rule}
 use Rattle.pairs.specs.Pairs.{keep}
@@ -11,8 +11,6 @@ use Rattle.machine.specs.Books.{on}
 use Rattle.machine.specs.OneMap as one
 use Rattle.machine.specs.OneMap.{OneMap}
 use Rattle.machine.specs.Statements.{Closing, close}
-use Rattle.grammar.specs.declared.command.Command.{Command}
-use Rattle.grammar.specs.declared.fault.LineFault.{LineFault}
 use Rattle.grammar.specs.Lines.{call_of}
 use Rattle.transcript.specs.declared.fault.RunFault.TheVariants.{Line}
 use Rattle.transcript.specs.Reports.{report_of, served}
@@ -51,6 +49,11 @@ pub whole_text : (p : Rule) (o : OneMap) (rows : List Row) (xs : List Answer) (s
     woven n rows xs ++ (counts_text 0 (counts_of st) ++ closing_text c) ≡ session_text p o n rows
 whole_text p o rows xs st c n e l d = (λ k. woven n rows (e k) ++ (counts_text 0 (l k) ++ closing_text (d k))) ∙ sym (session_woven p o n rows)
 
+-- a part is written, and the rest is left
+pub wrote : {A : Type 0} (before after part rest whole total : List A) → after ≡ before ++ part → whole ≡ part ++ rest → before ++ whole ≡ total → after ++ rest ≡ total
+wrote before after part rest whole total e w h =
+    ap (λ b. b ++ rest) e ∙ append_assoc before part rest ∙ ap (λ l. before ++ l) (sym w) ∙ h
+
 -- one count after the other
 counts_drop : (st : List Meaning) (s : ℕ) → s < length st → drop s (counts_of st) ≡ length (nth st s).pairs ∷ drop (suc s) (counts_of st)
 counts_drop [] s h = absurd (omega arith)
@@ -69,13 +72,3 @@ counts_all st s h = ap (counts_text s) (drop_all s (counts_of st) (subst (λ n. 
     counted : (st : List Meaning) → length (counts_of st) ≡ length st
     counted [] = refl
     counted (x ∷ st) = ap suc (counted st)
-
--- the calls of one row after the other
-pub calls_made : (rows : List Row) (i : ℕ) (d : Row) (c : Command) → i < length rows → get_or rows i d ≡ Ok c → calls_of (drop i rows) ≡ call_of c ∷ calls_of (drop (i + 1) rows)
-calls_made rows i d c h e = ap calls_of (drop_more rows i d h ∙ ap (λ r. r ∷ drop (i + 1) rows) e)
-
-pub calls_skipped : (rows : List Row) (i : ℕ) (d : Row) (f : LineFault) → i < length rows → get_or rows i d ≡ Err f → calls_of (drop i rows) ≡ calls_of (drop (i + 1) rows)
-calls_skipped rows i d f h e = ap calls_of (drop_more rows i d h ∙ ap (λ r. r ∷ drop (i + 1) rows) e)
-
-pub calls_none : (rows : List Row) (i : ℕ) → length rows ≤ i → calls_of (drop i rows) ≡ []
-calls_none rows i h = ap calls_of (drop_all i rows h)

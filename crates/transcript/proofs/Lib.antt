@@ -1,4 +1,3 @@
-pub mod Weaves
 pub mod Ends
 pub mod Unique
 pub mod RowsRead

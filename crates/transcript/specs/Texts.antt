@@ -1,25 +1,20 @@
 -- How everything is written that a run prints.
-use Rattle.std.specs.Prelude.{ℕ, ◌+◌, ◌^◌, cond, List, [], ◌∷◌, ◌++◌, Some, None, Ok, Err, codes, decimal, Option, Result, ◌==◌}
+use Rattle.std.specs.Prelude.{ℕ, ◌+◌, List, [], ◌∷◌, ◌++◌, Some, None, Ok, Err, codes, decimal, Option, Result}
 use Rattle.store.specs.declared.Put.{Put}
 use Rattle.store.specs.declared.Put.TheVariants.{New, Replaced}
 use Rattle.store.specs.declared.fault.StoreFault.{StoreFault}
 use Rattle.store.specs.declared.fault.StoreFault.TheVariants.{BeyondLimit, BadImage, Full, HoldsPair}
+use Rattle.entry.specs.Texts.{state_text}
 use Rattle.machine.specs.declared.fault.Fault.{Fault}
 use Rattle.machine.specs.declared.fault.Fault.TheVariants as fault
 use Rattle.machine.specs.Faults.{fault_number}
-use Rattle.machine.specs.Books.{Move}
 use Rattle.machine.specs.Statements.{Closing}
+use Rattle.machine.specs.Texts.{change_text, moved_text}
 use Rattle.grammar.specs.Faults.{place_of}
-use Rattle.grammar.specs.Spelling.{state_text}
 use Rattle.transcript.specs.declared.report.Report.{Report}
 use Rattle.transcript.specs.declared.report.Report.TheVariants as report
 use Rattle.transcript.specs.declared.fault.RunFault.{RunFault}
 use Rattle.transcript.specs.declared.fault.RunFault.TheVariants.{TooLong, Line, Service, Memory}
-
--- a store, or a dash for none
-abbrev pub store_text : Option ℕ → List ℕ
-store_text None = codes "-"
-store_text (Some s) = decimal s
 
 abbrev pub put_text : Put → List ℕ
 put_text New = codes "new"
@@ -33,7 +28,7 @@ report_text (report.Reading r) = codes "read " ++ (decimal r.millilitres ++ (cod
 report_text report.Nothing = codes "none"
 report_text report.Gone = codes "gone"
 report_text (report.Opened s) = codes "open " ++ decimal s
-report_text (report.Moved m) = codes "step " ++ (decimal m.key ++ (codes " " ++ (store_text m.gained ++ (codes " " ++ store_text m.lost))))
+report_text (report.Moved m) = codes "step " ++ moved_text m
 report_text report.Done = codes "done"
 
 -- the store that a refusal is printed with: the full one, and no other
@@ -81,14 +76,6 @@ count_text s n = codes "store " ++ (decimal s ++ (codes " " ++ (decimal n ++ cod
 abbrev pub counts_text : ℕ → List ℕ → List ℕ
 counts_text s [] = []
 counts_text s (n ∷ ns) = count_text s n ++ counts_text (s + 1) ns
-
--- a cursor past every key is 2^64
-abbrev pub cursor_text : ℕ → List ℕ
-cursor_text c = cond (c == 2 ^ 64) (codes "past") (decimal c)
-
-abbrev pub change_text : Option Move → List ℕ
-change_text None = codes "settled"
-change_text (Some m) = codes "moving " ++ (decimal m.store ++ (codes " " ++ cursor_text m.cursor))
 
 -- what a service says of itself at the end
 abbrev pub closing_text : Closing → List ℕ

@@ -1,14 +1,12 @@
-// How reports and refusals are written.
+// How reports and refusals are written: in each match every case has a text of its own, so the match is the table.
 ghost use Rattle.std.specs.Prelude.{◌≡◌, Some as Shown};
-ghost use Rattle.grammar.specs.Spelling.{state_text};
-ghost use Rattle.transcript.specs.Texts.{store_text, report_text, full_in, fault_text};
+ghost use Rattle.transcript.specs.Texts.{report_text, full_in, fault_text};
 ghost use Rattle.transcript.specs.declared.fault.RunFault.TheVariants.{Line as OfLine, Service as OfService, Memory as NoMemory};
 
 use crate::fault::RunFault;
 use crate::report::Report;
-use entry::reading::State;
 use grammar::fault::LineFault;
-use machine::fault::Fault;
+use machine::fault::{Fault, StoreRefusal};
 use std::alloc::{AllocError, AllocFailed};
 use std::fmt;
 use store::Put;
@@ -30,7 +28,8 @@ impl From<Fault> for RunFault {
     }
 }
 
-// Whatever finds no memory.
+// Whatever finds no memory: three conversions, since a push that fails hands back its value with the refusal, and a
+// formatter's error is another again.
 impl From<AllocError> for RunFault {
     ghost from_gives = { λ _ r. r ≡ NoMemory };
 
@@ -47,43 +46,11 @@ impl<T: Drop> From<AllocFailed<T>> for RunFault {
     }
 }
 
-// Text is written to memory, so nothing else can go wrong there.
 impl From<fmt::Error> for RunFault {
     ghost from_gives = { λ _ r. r ≡ NoMemory };
 
     fn from(_fault: fmt::Error) -> RunFault {
         RunFault::Memory
-    }
-}
-
-// A store, or none.
-#[derive(Clone, Copy)]
-struct Dashed(Option<usize>);
-
-impl fmt::Display for Dashed {
-    ghost output = { λ d. Shown (store_text d.0) };
-
-    fn fmt<W: fmt::Write>(&self, f: &mut fmt::Formatter<W>) -> fmt::Result {
-        match self.0 {
-            None => write!(f, "-"),
-            Some(store) => write!(f, "{store}"),
-        }
-    }
-}
-
-// A state of a reading, as a word.
-#[derive(Clone, Copy)]
-struct Stated(State);
-
-impl fmt::Display for Stated {
-    ghost output = { λ s. Shown (state_text s.0) };
-
-    fn fmt<W: fmt::Write>(&self, f: &mut fmt::Formatter<W>) -> fmt::Result {
-        match self.0 {
-            State::Valid => write!(f, "valid"),
-            State::Saturated => write!(f, "saturated"),
-            State::Missing => write!(f, "missing"),
-        }
     }
 }
 
@@ -95,25 +62,12 @@ impl fmt::Display for Report {
             Report::Ready => write!(f, "ok"),
             Report::Stored(Put::New) => write!(f, "new"),
             Report::Stored(Put::Replaced) => write!(f, "replaced"),
-            Report::Calibration(entry) => {
-                let firmware = entry.firmware;
-                let factor = entry.factor;
-                write!(f, "cal {firmware} {factor}")
-            }
-            Report::Reading(entry) => {
-                let millilitres = entry.millilitres;
-                let state = Stated(entry.state);
-                write!(f, "read {millilitres} {state}")
-            }
+            Report::Calibration(entry) => write!(f, "cal {} {}", entry.firmware, entry.factor),
+            Report::Reading(entry) => write!(f, "read {} {}", entry.millilitres, entry.state),
             Report::Nothing => write!(f, "none"),
             Report::Gone => write!(f, "gone"),
             Report::Opened(store) => write!(f, "open {store}"),
-            Report::Moved(moved) => {
-                let key = moved.key;
-                let gained = Dashed(moved.gained);
-                let lost = Dashed(moved.lost);
-                write!(f, "step {key} {gained} {lost}")
-            }
+            Report::Moved(moved) => write!(f, "step {moved}"),
             Report::Done => write!(f, "done"),
         }
     }
@@ -123,11 +77,13 @@ impl fmt::Display for Report {
 fn full_store(fault: &Fault) -> Option<usize>
     ensures { result ≡ full_in fault.now }
 {
-    match fault {
-        Fault::Store(refusal) => match refusal.fault {
-            StoreFault::Full => Some(refusal.store),
-            _ => None,
-        },
+    match *fault {
+        Fault::Store(
+            StoreRefusal {
+                store,
+                fault: StoreFault::Full,
+            },
+        ) => Some(store),
         _ => None,
     }
 }
@@ -138,10 +94,7 @@ impl fmt::Display for RunFault {
     fn fmt<W: fmt::Write>(&self, f: &mut fmt::Formatter<W>) -> fmt::Result {
         match self {
             RunFault::TooLong => write!(f, "no 2"),
-            RunFault::Line(fault) => {
-                let column = fault.place().column;
-                write!(f, "no 1 {column}")
-            }
+            RunFault::Line(fault) => write!(f, "no 1 {}", fault.place().column),
             RunFault::Service(fault) => {
                 let number = fault.number();
                 match full_store(fault) {

@@ -71,12 +71,6 @@ next_keys_append (s ∷ a) b st c =
 pub least_of_both : (a b : List ℕ) (st : List Meaning) (c : ℕ) → smallest_of (next_keys a st c ++ next_keys b st c) ≡ least (a ++ b) st c
 least_of_both a b st c = ap smallest_of (next_keys_append a b st c) ∙ next_smallest (a ++ b) st c
 
--- one key more in the room
-pub note_more : (room room' : List ℕ) (end end' : ℕ) (o : Option ℕ) (rest all : List ℕ) →
-    take end' room' ≡ take end room ++ listed o → take end room ++ (listed o ++ rest) ≡ all → take end' room' ++ rest ≡ all
-note_more room room' end end' o rest all e h =
-    ap (λ (l : List ℕ). l ++ rest) e ∙ append_assoc (take end room) (listed o) rest ∙ h
-
 -- no store holds a key past every key
 pub none_past : (ss : List ℕ) (st : List Meaning) → LawfulRow st → least ss st (2 ^ 64) ≡ None
 none_past ss st row = least_none st (2 ^ 64) ss (λ s m. next_none_is (nth st s).pairs (2 ^ 64) (λ q l. go s q l (find (nth st s).pairs q) refl))

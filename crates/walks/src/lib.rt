@@ -1,14 +1,19 @@
 // What the service does to the stores of a list: small functions over a bank and a list of store numbers.
+//
+// That the bank is standing is the one premise of each of them, so each contract says it, and that a write leaves it so.
+// A bank is lent to one call at a time and held by nothing, so bank, list and key come beside one another.
 #![tactic(auto)]
 
-ghost use Rattle.std.specs.Prelude.{◌≡◌, ◌+◌, ◌<◌, ◌≤◌, ◌++◌, length, take, slice_index};
+ghost use Rattle.std.specs.Prelude.{◌≡◌, ◌+◌, ◌<◌, ◌≤◌, ◌++◌, length};
 ghost use Rattle.placement.specs.Rosters.{members};
+ghost use Rattle.store.specs.Stores.{nth};
 ghost use Rattle.machine.specs.Books.{first_outside};
-ghost use Rattle.machine.specs.Lent.{first_full, first_holding, found_on, held_on, put_all, put_some, erase_all, erase_some, least};
+ghost use Rattle.machine.specs.Lent.{full_for, first_full, first_holding, found_on, held_on, put_all, put_some, erase_all, erase_some, least};
 ghost use Rattle.machine.specs.Statements.{cursor_of};
 ghost use Rattle.walks.specs.Outcomes.{put_result, put_stores, carry_result, carry_stores};
-ghost use Rattle.walks.specs.Keys.{listed, next_keys, smallest_of};
+ghost use Rattle.walks.specs.Keys.{next_keys, smallest_of};
 
+use arrayvec::ArrayVec;
 use bank::Bank;
 use machine::answer::Moved;
 use machine::fault::StoreRefusal;
@@ -19,35 +24,28 @@ use store::Put;
 use store::fault::StoreFault;
 use store::value::Value;
 
-// The store at a position of a list, 0 past its end.
-fn at(list: &Roster, position: usize) -> usize
-    ensures { result ≡ slice_index (members list.now) position }
-{
-    match list.member(position) {
-        Some(store) => store,
-        None => 0,
-    }
-}
-
 // The first store of one list that does not stand in another.
 pub fn outside(list: &Roster, other: &Roster) -> Option<usize>
     ensures { result ≡ first_outside (members list.now) (members other.now) }
 {
-    for i in 0..list.len() {
-        let store = at(list, i);
-        if !other.contains(store) {
-            return Some(store);
-        }
-    }
-    None
+    list.iter().find(|store| !other.contains(*store))
 }
 
-// What the first store of a list has at a key.
+// What the first store of a list has at a key. A roster always has a first.
+#[tactic(auto, using(crate::proofs::Lists::has_first))]
 pub fn read<B: Bank>(bank: &B, list: &Roster, key: u64) -> Option<Value>
     requires { B.Bank.standing bank.now }
     ensures { result ≡ found_on (B.Bank.stores bank.now) (members list.now) key }
 {
-    bank.get(at(list, 0), key)
+    bank.get(list.member(0)?, key)
+}
+
+// Whether a store lacks a key and has no room for it.
+fn is_full<B: Bank>(bank: &B, store: usize, key: u64) -> bool
+    requires { B.Bank.standing bank.now }
+    ensures { result ≡ full_for (nth (B.Bank.stores bank.now) store) key }
+{
+    bank.get(store, key).is_none() && bank.count(store) >= bank.cap(store)
 }
 
 // The first store of a list that is full for a key.
@@ -55,13 +53,7 @@ fn full<B: Bank>(bank: &B, list: &Roster, key: u64) -> Option<usize>
     requires { B.Bank.standing bank.now }
     ensures { result ≡ first_full (members list.now) (B.Bank.stores bank.now) key }
 {
-    for i in 0..list.len() {
-        let store = at(list, i);
-        if bank.get(store, key).is_none() && bank.count(store) >= bank.cap(store) {
-            return Some(store);
-        }
-    }
-    None
+    list.iter().find(|store| is_full(bank, *store, key))
 }
 
 // Puts into each store of a list that has room.
@@ -71,8 +63,8 @@ fn write<B: Bank>(bank: &mut B, list: &Roster, key: u64, value: Value)
     ensures writes_all { B.Bank.stores bank.new ≡ put_all (members list.now) (B.Bank.stores bank.old) key value }
     ensures beyond_untouched { B.Bank.beyond bank.new ≡ B.Bank.beyond bank.old }
 {
-    for i in 0..list.len() {
-        let _ = bank.put(at(list, i), key, value);
+    for store in list.iter() {
+        let _ = bank.put(store, key, value);
     }
 }
 
@@ -89,21 +81,19 @@ pub fn put<B: Bank>(
     ensures writes_all_or_none { B.Bank.stores bank.new ≡ put_stores (members list.now) (B.Bank.stores bank.old) key value }
     ensures beyond_untouched { B.Bank.beyond bank.new ≡ B.Bank.beyond bank.old }
 {
-    match full(bank, list, key) {
-        Some(store) => Err(StoreRefusal {
+    if let Some(store) = full(bank, list, key) {
+        return Err(StoreRefusal {
             store,
             fault: StoreFault::Full,
-        }),
-        None => {
-            let was = if read(bank, list, key).is_some() {
-                Put::Replaced
-            } else {
-                Put::New
-            };
-            write(bank, list, key, value);
-            Ok(was)
-        }
+        });
     }
+    let was = if read(bank, list, key).is_some() {
+        Put::Replaced
+    } else {
+        Put::New
+    };
+    write(bank, list, key, value);
+    Ok(was)
 }
 
 // Removes from every store of a list.
@@ -113,8 +103,8 @@ fn strike<B: Bank>(bank: &mut B, list: &Roster, key: u64)
     ensures strikes_all { B.Bank.stores bank.new ≡ erase_all (members list.now) (B.Bank.stores bank.old) key }
     ensures beyond_untouched { B.Bank.beyond bank.new ≡ B.Bank.beyond bank.old }
 {
-    for i in 0..list.len() {
-        let _ = bank.remove(at(list, i), key);
+    for store in list.iter() {
+        let _ = bank.remove(store, key);
     }
 }
 
@@ -131,37 +121,21 @@ pub fn remove<B: Bank>(bank: &mut B, list: &Roster, key: u64) -> bool
     held
 }
 
-// Writes a key behind the others in a room, where there is one; answers where they end.
-fn noted(room: &mut [u64], end: usize, key: Option<u64>) -> usize
-    requires { end < length room.old }
-    ensures appends { take result room.new ≡ take end room.old ++ listed key }
-    ensures ends { result ≤ end + 1 }
+// Puts the next key of each store of a list, counted from a key, behind the others in a room.
+fn gather<B: Bank>(bank: &B, list: &Roster, from: u64, room: &mut ArrayVec<u64, 32>)
+    requires standing { B.Bank.standing bank.now }
+    requires room_enough { length room.old.items + length (members list.now) ≤ 32 }
+    ensures gathers { room.new.items ≡ room.old.items ++ next_keys (members list.now) (B.Bank.stores bank.now) from }
+    ensures ends { length room.new.items ≤ length room.old.items + length (members list.now) }
 {
-    match key {
-        None => end,
-        Some(key) => {
-            room[end] = key;
-            end + 1
+    for store in list.iter() {
+        if let Some(key) = bank.next(store, from) {
+            room.push(key);
         }
     }
 }
 
-// Writes the next key of each store of a list, counted from a key, into a room from a place on; answers where they end.
-fn gather<B: Bank>(bank: &B, list: &Roster, from: u64, room: &mut [u64], start: usize) -> usize
-    requires standing { B.Bank.standing bank.now }
-    requires room_enough { start + length (members list.now) ≤ length room.old }
-    ensures gathers { take result room.new ≡ take start room.old ++ next_keys (members list.now) (B.Bank.stores bank.now) from }
-    ensures ends { result ≤ start + length (members list.now) }
-{
-    let mut end = start;
-    for i in 0..list.len() {
-        let next = bank.next(at(list, i), from);
-        end = noted(room, end, next);
-    }
-    end
-}
-
-// The smallest of some keys, which are left in another order.
+// The smallest of some keys, which are left in another order: by the one selection function, which a step is to use.
 fn smallest(keys: &mut [u64]) -> Option<u64>
     ensures { result ≡ smallest_of keys.old }
 {
@@ -173,19 +147,18 @@ fn smallest(keys: &mut [u64]) -> Option<u64>
 }
 
 // The least key that the stores of two lists hold, of those not below a cursor.
+#[tactic(auto, using(crate::proofs::Lists::few, crate::proofs::Keys::least_of_both, crate::proofs::Keys::none_past))]
 pub fn lowest<B: Bank>(bank: &B, roster: &Roster, target: &Roster, cursor: Cursor) -> Option<u64>
     requires { B.Bank.standing bank.now }
     ensures { result ≡ least (members roster.now ++ members target.now) (B.Bank.stores bank.now) (cursor_of cursor) }
 {
-    match cursor {
-        Cursor::Past => None,
-        Cursor::At(from) => {
-            let mut room = [0; 32];
-            let some = gather(bank, roster, from, &mut room, 0);
-            let all = gather(bank, target, from, &mut room, some);
-            smallest(&mut room[0..all])
-        }
-    }
+    let Cursor::At(from) = cursor else {
+        return None;
+    };
+    let mut room = ArrayVec::new();
+    gather(bank, roster, from, &mut room);
+    gather(bank, target, from, &mut room);
+    smallest(room.as_mut_slice())
 }
 
 // Puts into the gained store.
@@ -196,13 +169,11 @@ fn give<B: Bank>(bank: &mut B, moved: Moved, value: Value) -> Result<Moved, Stor
     ensures writes_gained { B.Bank.stores bank.new ≡ put_some moved.gained (B.Bank.stores bank.old) moved.key value }
     ensures beyond_untouched { B.Bank.beyond bank.new ≡ B.Bank.beyond bank.old }
 {
-    match moved.gained {
-        None => Ok(moved),
-        Some(store) => match bank.put(store, moved.key, value) {
-            Ok(_) => Ok(moved),
-            Err(fault) => Err(StoreRefusal { store, fault }),
-        },
+    if let Some(store) = moved.gained {
+        bank.put(store, moved.key, value)
+            .map_err(|fault| StoreRefusal { store, fault })?;
     }
+    Ok(moved)
 }
 
 // Removes from the lost store.
@@ -212,13 +183,14 @@ fn lose<B: Bank>(bank: &mut B, lost: Option<usize>, key: u64)
     ensures strikes_lost { B.Bank.stores bank.new ≡ erase_some lost (B.Bank.stores bank.old) key }
     ensures beyond_untouched { B.Bank.beyond bank.new ≡ B.Bank.beyond bank.old }
 {
-    if let Some(store) = lost {
-        let _ = bank.remove(store, key);
+    if let Some(loser) = lost {
+        let _ = bank.remove(loser, key);
     }
 }
 
 // Moves a key with its value: writes it to the gained store and strikes it from the lost one. Refused where the gained
 // store is full; nothing is written or struck then.
+#[tactic(auto, using(crate::proofs::Moves::refused_stays))]
 pub fn carry<B: Bank>(bank: &mut B, moved: Moved, value: Value) -> Result<Moved, StoreRefusal>
     requires { B.Bank.standing bank.old }
     ensures stands { B.Bank.standing bank.new }
@@ -236,10 +208,5 @@ pub fn holding<B: Bank>(bank: &B) -> Option<usize>
     requires { B.Bank.standing bank.now }
     ensures { result ≡ first_holding 0 (B.Bank.stores bank.now) }
 {
-    for store in 0..bank.len() {
-        if bank.count(store) != 0 {
-            return Some(store);
-        }
-    }
-    None
+    (0..bank.len()).find(|store| bank.count(*store) != 0)
 }

@@ -15,27 +15,21 @@ use placement::policies::Policy;
 fn shared(text: &[u8], word: &[u8]) -> usize
     ensures { result ≡ common text.now word.now }
 {
-    let mut n = 0;
-    while n < text.len() && n < word.len() && text[n] == word[n] {
-        n += 1;
-    }
-    n
+    text.iter().zip(word).take_while(|(a, b)| a == b).count()
 }
 
 // How far `text` goes with the one of `words` with which it goes furthest.
 fn astray(text: &[u8], words: &[&[u8]]) -> usize
     ensures { result ≡ furthest (texts words.now) text.now }
 {
-    let mut most = 0;
-    for word in words.iter() {
-        let far = shared(text, word);
-        if most < far {
-            most = far;
-        }
-    }
-    most
+    words
+        .iter()
+        .map(|word| shared(text, word))
+        .max()
+        .unwrap_or(0)
 }
 
+// One impl for each type: words are matched as literal cases, and an impl that a macro of the repository writes is not taken.
 impl Spelled for Verb {
     ghost slot = { verb };
 

@@ -1,8 +1,10 @@
-use Rattle.std.proofs.Common.{◌≡◌, ◌*◌, ◌≤◌, sym, refl, ap, ◌∙◌, arith, rules}
+use Rattle.std.proofs.Common.{◌≡◌, length, sym, refl, ap, ◌∙◌, arith}
 use Rattle.codec.specs.Words.{over}
+use Rattle.log_theory.specs.Rows.{stays_in}
 use Rattle.log_theory.specs.Moves.{stays, packed, stay_count}
-use Rattle.log_theory.proofs.Slots.{same_tape}
-use Rattle.log_theory.proofs.Packs.{stay_count_most, stays_still, pack_one, pack_none}
+use Rattle.log_theory.proofs.Rows.{length_row, stays_row}
+use Rattle.log_theory.proofs.Slots.{same_tape, copied_slot}
+use Rattle.log_theory.proofs.Packs.{stays_still, pack_one, pack_none}
 use Rattle.log_store.proofs.compact.Goals as goal
 use Rattle.log_store.proofs.compact.Goals.{then-is_last_put, else-is_last_put}
 
@@ -10,16 +12,8 @@ pub loop-i-init : goal.loop-i-init
 unfolding over
 loop-i-init c = (refl, refl)
 
-pub set_slot-requires : goal.set_slot-requires
-set_slot-requires c =
-    let l = stay_count_most c.args.bytes.now c.args.used c.loop-i.i in
-    omega arith
-
-pub overflow_add-front : goal.overflow_add-front
-overflow_add-front c =
-    let l = stay_count_most c.args.bytes.now c.args.used c.loop-i.i in
-    let m : c.loop-i.front ≤ c.loop-i.i = omega arith in
-    search rules
+pub is_last_put-requires : goal.is_last_put-requires
+is_last_put-requires c = let e = ap length c.row.ensures.slots ∙ length_row c.loop-i.bytes c.args.used in omega arith
 
 pub loop-i-preserved : goal.loop-i-preserved
 loop-i-preserved c =
@@ -27,16 +21,16 @@ loop-i-preserved c =
     let n = c.args.used in
     let i = c.loop-i.i in
     let cur = c.loop-i.bytes in
-    let w = c.loop-i.front in
     let e = c.loop-i.invariant.0 in
     let t = c.loop-i-test.true in
-    let s : c.is_last_put.result ≡ stays bs n i = c.is_last_put.ensures ∙ stays_still bs n i c.requires t cur e in
+    let s : c.is_last_put.result ≡ stays bs n i =
+    c.is_last_put.ensures ∙ ap (λ z. stays_in z i) c.row.ensures.slots ∙ stays_row cur n i t ∙ stays_still bs n i c.requires t cur e in
     elim c.if-is_last_put.branch [
       | then-is_last_put v ↦
-          let p = pack_one bs n i c.requires t cur e v.set_slot.new.bytes w (sym s ∙ v.if-is_last_put.true) c.loop-i.invariant.1 (v.set_slot.ensures ∙ ap (over cur (32 * w)) v.slot-part.ensures) in
+          let p = pack_one bs n i c.requires t cur e v.copy_within.new.self c.loop-i.front (sym s ∙ v.if-is_last_put.true) c.loop-i.invariant.1 (v.copy_within.ensures.after ∙ copied_slot cur i c.loop-i.front (omega arith)) in
           (v.bytes-is ∙ p.0, v.front-is ∙ p.1)
       | else-is_last_put v ↦
-          let p = pack_none bs n i c.requires t cur e w (sym s ∙ v.if-is_last_put.false) c.loop-i.invariant.1 in
+          let p = pack_none bs n i c.requires t cur e c.loop-i.front (sym s ∙ v.if-is_last_put.false) c.loop-i.invariant.1 in
           (v.bytes-is ∙ p.0, v.front-is ∙ p.1)
     ]
 

@@ -1,6 +1,6 @@
-use Rattle.std.proofs.Common.{◌≡◌, ℕ, ◌+◌, ◌*◌, ◌/◌, ◌%◌, ◌^◌, ◌<◌, sym, ap, ◌∙◌, subst, add-one}
+use Rattle.std.proofs.Common.{◌≡◌, ℕ, ◌+◌, ◌*◌, ◌/◌, ◌%◌, ◌^◌, ◌<◌, sym, ap, ◌∙◌, add-one}
 use Rattle.placement.specs.Packing.{unpack, cut}
-use Rattle.placement.proofs.Digits.{unpack_cut, cut_fits, cut_high, low_fits}
+use Rattle.placement.proofs.Digits.{unpack_cut, cut_high, low_fits}
 use Rattle.placement.proofs.number_cut.Goals as goal
 
 -- the word that the code makes, without its wrapping
@@ -8,9 +8,6 @@ made : (w i : ℕ) → i < 16 → w < 2 ^ 64 →
     w % ((1 * 2 ^ (4 * i)) % 2 ^ 64) + (w / 2 ^ (4 * i) / 16 * 2 ^ (4 * i)) % 2 ^ 64 ≡ w % 2 ^ (4 * i) + w / 2 ^ (4 * i) / 16 * 2 ^ (4 * i)
 made w i h f =
     ap (λ (x : ℕ). x + (w / 2 ^ (4 * i) / 16 * 2 ^ (4 * i)) % 2 ^ 64) (low_fits w i h) ∙ ap (λ (x : ℕ). w % 2 ^ (4 * i) + x) (cut_high w i f)
-
-pub overflow_add-result : goal.overflow_add-result
-overflow_add-result c = record { fits = subst (λ (x : ℕ). x < 2 ^ 64) (sym (made c.args.word c.args.place c.requires c.ranges.word.fits)) (cut_fits c.args.word c.args.place c.ranges.word.fits) }
 
 pub returns : goal.returns
 returns c n h =

@@ -1,31 +1,16 @@
-use Rattle.std.proofs.Common.{ℕ, ◌+◌, ◌<◌, ◌≤◌, List, length, drop, sym, ◌∙◌, arith}
-use Rattle.lists.proofs.Places.{onward, ended}
+use Rattle.std.proofs.Common.{rules, tests, not, sym, ◌∙◌}
+use Rattle.std.proofs.lemmas.Iterator.Adapters.{option_map_id}
+use Rattle.std.proofs.lemmas.Iterator.Consumers.{YieldsList-from_first}
+use Rattle.std.proofs.lemmas.Iterator.Search.{find_from_yields_List}
+use Rattle.lists.specs.Numbers.{member}
 use Rattle.placement.specs.Rosters.{members}
-use Rattle.machine.specs.Books.{first_outside}
-use Rattle.walks.proofs.Lists.{outside_hit, outside_skip}
+use Rattle.walks.proofs.Lists.{outside_found}
 use Rattle.walks.proofs.outside.Goals as goal
-
-pub returns-then-not-contains : goal.returns-then-not-contains
-returns-then-not-contains c =
-    let L = members c.args.list.now in
-    let O = members c.args.other.now in
-    let s = c.at-store.result in
-    let h : c.loop-i.i < length L = omega arith in
-    outside_hit s (drop (c.loop-i.i + 1) L) O (sym c.if-not-contains.ensures)
-    ∙ onward (λ (x : List ℕ). first_outside x O) L c.loop-i.i s (first_outside L O) h c.at-store.ensures c.loop-i.invariant
-
-pub loop-i-preserved : goal.loop-i-preserved
-loop-i-preserved c =
-    let L = members c.args.list.now in
-    let O = members c.args.other.now in
-    let s = c.at-store.result in
-    let h : c.loop-i.i < length L = omega arith in
-    outside_skip s (drop (c.loop-i.i + 1) L) O (sym c.if-not-contains.ensures)
-    ∙ onward (λ (x : List ℕ). first_outside x O) L c.loop-i.i s (first_outside L O) h c.at-store.ensures c.loop-i.invariant
 
 pub returns : goal.returns
 returns c =
-    let L = members c.args.list.now in
-    let O = members c.args.other.now in
-    let h : length L ≤ c.loop-i.i = omega arith in
-    ended (λ (x : List ℕ). first_outside x O) L c.loop-i.i (first_outside L O) h c.loop-i.invariant
+    let b = members c.args.other.now in
+    sym (option_map_id c.find.result)
+    ∙ find_from_yields_List (λ s. not (member s b)) _ _ c.find.result c.find.ensures.ran
+    (YieldsList-from_first (λ x. x) (λ m. m) _ c.iter.ensures) (λ x b q k. search (rules, tests))
+    ∙ outside_found (members c.args.list.now) b

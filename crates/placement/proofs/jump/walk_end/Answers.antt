@@ -1,6 +1,5 @@
-use Rattle.std.proofs.Common.{ℕ, ◌+◌, ◌*◌, ◌%◌, ◌^◌, ◌<◌, sym, ◌∙◌, arith}
-use Rattle.placement.specs.Jump.{leap}
-use Rattle.placement.specs.Walking.{wrapped, turn_up, turn_on, turn_off}
+use Rattle.std.proofs.Common.{ℕ, ◌+◌, ◌*◌, ◌%◌, ◌^◌, sym, ◌∙◌}
+use Rattle.placement.specs.Walking.{wrapped, turn_on, turn_off}
 use Rattle.placement.proofs.jump.walk_end.Goals as goal
 
 -- the code's next state, which wraps twice
@@ -12,11 +11,6 @@ loop-key-preserved c = (
   c.if-next-end.false,
   turn_on c.args.len c.loop-key.state c.loop-key.at (after c.loop-key.state) (wrapped c.loop-key.state) c.loop-key.invariant.0 c.if-next-end.false ∙ c.loop-key.invariant.1,
 )
-
-pub loop-key-smaller : goal.loop-key-smaller
-loop-key-smaller c =
-    let u : c.loop-key.at < leap (after c.loop-key.state) c.loop-key.at = turn_up c.args.len c.loop-key.state c.loop-key.at (after c.loop-key.state) (wrapped c.loop-key.state) c.loop-key.invariant.0 in
-    omega (arith, u, c.loop-key.invariant.0, c.if-next-end.false)
 
 pub returns-then-next-end : goal.returns-then-next-end
 returns-then-next-end c = (

@@ -3,5 +3,5 @@ use Rattle.placement.specs.Packing.{unpack}
 use Rattle.placement.specs.Candidates.{store_of}
 use Rattle.placement.proofs.rendezvous.packed.Given as goal
 
-abbrev pub invariant-loop-i : goal.invariant-loop-i
-invariant-loop-i l = unpack l.word l.i ≡ map store_of (take l.i l.room)
+abbrev pub invariant-loop-place : goal.invariant-loop-place
+invariant-loop-place l = unpack l.word l.place ≡ map store_of (take l.place l.candidates)

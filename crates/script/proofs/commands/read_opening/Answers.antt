@@ -1,6 +1,6 @@
-use Rattle.std.proofs.Common.{◌∙◌}
+use Rattle.std.proofs.Common.{ap, ◌∙◌}
 use Rattle.std.proofs.lemmas.Result.{MatchResult-weaker}
-use Rattle.grammar.proofs.Going.{refuses_opening_first, refuses_opening_rest, gives_opening}
+use Rattle.script.proofs.Going.{refuses_opening_first, refuses_opening_rest, gives_opening}
 use Rattle.script.proofs.commands.read_opening.Goals as goal
 
 pub returns-in_err-_keyword : goal.returns-in_err-_keyword
@@ -16,5 +16,5 @@ returns c =
     let told = c.in_ok-_keyword.ensures in
     let first = rw new.line_is_given at told.reads_first in
     MatchResult-weaker c.cluster.result c.cluster.ensures
-    (λ x h. gives_opening _ _ _ _ x first (told.line_stays ∙ new.line_is_given) h)
-    (λ f h. refuses_opening_rest _ _ _ _ _ _ f first (told.line_stays ∙ new.line_is_given) (told.number_stays ∙ new.number_is_given) h)
+    (λ x h. gives_opening _ _ _ _ x first (ap (λ l. l.text.now) told.line_stays ∙ new.line_is_given) h)
+    (λ f h. refuses_opening_rest _ _ _ _ _ _ f first (ap (λ l. l.text.now) told.line_stays ∙ new.line_is_given) (ap (λ l. l.number) told.line_stays ∙ new.number_is_given) h)

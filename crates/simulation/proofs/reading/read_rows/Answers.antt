@@ -1,27 +1,11 @@
-use Rattle.std.proofs.Common.{◌≡◌, [], ◌∷◌, drop, sym, refl, ap, ◌∙◌, arith}
-use Rattle.grammar.specs.Lines.{lines_of}
-use Rattle.transcript.proofs.RowsRead.{at_first, one_more, at_last}
+use Rattle.std.proofs.Common.{sym, subst, vec_items}
+use Rattle.std.specs.Iterator.Adapters.{zip_second}
+use Rattle.transcript.proofs.RowsRead.{SoFar, one_more}
 use Rattle.simulation.proofs.reading.read_rows.Goals as goal
 
-pub loop-line-init : goal.loop-line-init
-loop-line-init c = (refl, omega arith, at_first _ _ c.new-rows.ensures.items)
-
-pub loop-line-preserved : goal.loop-line-preserved
-loop-line-preserved c =
-    let inv = c.loop-line.invariant in
-    let told = c.in-Some.ensures in
-    let text = c.args.lines.now.text.now in
-    let next : lines_of (drop c.loop-line.lines.at text) ≡ c.in-Some.line.now ∷ lines_of (drop c.next.new.self.at text) =
-    ap (λ t. lines_of (drop c.loop-line.lines.at t)) (sym inv.0) ∙ told.hands_out_in_order ∙ ap (λ t. c.in-Some.line.now ∷ lines_of (drop c.next.new.self.at t)) inv.0 in (
-      told.text_stays ∙ inv.0,
-      omega (arith, told.goes_on),
-      one_more _ _ _ _ c.in-Some.line.now _ c.read_command.result _ inv.2 next c.read_command.ensures c.in_ok-push.ensures.items,
-    )
-
-pub returns : goal.returns
-returns c =
-    let inv = c.loop-line.invariant in
-    let told = c.in_default.ensures in
-    let text = c.args.lines.now.text.now in
-    let none : lines_of (drop c.loop-line.lines.at text) ≡ [] = ap (λ t. lines_of (drop c.loop-line.lines.at t)) (sym inv.0) ∙ told.hands_out_in_order in
-    at_last _ _ _ _ inv.2 none
+pub loop-number-preserved : goal.loop-number-preserved
+loop-number-preserved c =
+    let (counted, line) = c.in-Some.ensures.steps in
+    let so_far = SoFar c.args.lines (zip_second c.loop-number.number-iterator) (vec_items c.loop-number.rows) in
+    subst (SoFar c.args.lines (zip_second c.next.new.self) (vec_items c.push.new.self)) (sym counted.1)
+    (one_more _ _ _ _ _ _ c.read_command.result _ (subst so_far (sym counted.0) c.loop-number.invariant) line c.read_command.ensures c.in_ok-push.ensures.items)

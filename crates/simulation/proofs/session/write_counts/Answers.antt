@@ -1,7 +1,6 @@
-use Rattle.std.proofs.Common.{◌<◌, ◌≤◌, ◌++◌, length, string_bytes, ap, ◌∙◌, arith}
+use Rattle.std.proofs.Common.{◌<◌, ◌++◌, length, string_bytes, ap, ◌∙◌, arith}
 use Rattle.transcript.specs.Texts.{count_text}
-use Rattle.transcript.proofs.Weaves.{wrote, nothing_left}
-use Rattle.transcript.proofs.Ends.{counts_more, counts_all}
+use Rattle.transcript.proofs.Ends.{wrote, counts_more}
 use Rattle.simulation.proofs.session.write_counts.Goals as goal
 
 pub loop-store-preserved : goal.loop-store-preserved
@@ -12,9 +11,3 @@ loop-store-preserved g c =
     wrote _ _ _ _ _ _
     (c.in_ok-writeln.ensures.bytes ∙ ap (λ n. string_bytes c.loop-store.out ++ count_text s n) c.count-count.ensures)
     (counts_more st s here) c.loop-store.invariant
-
-pub returns : goal.returns
-returns g c =
-    let st = g.B.Bank.stores c.args.bank.now in
-    let past : length st ≤ c.loop-store.store-counter = omega arith in
-    nothing_left _ _ _ (counts_all st c.loop-store.store-counter past) c.loop-store.invariant

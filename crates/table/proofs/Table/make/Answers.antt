@@ -1,15 +1,11 @@
-use Rattle.std.proofs.Common.{length, sym, refl, ap, ◌∙◌, subst}
+use Rattle.std.proofs.Common.{length, sym, ap, ◌∙◌, subst, rules}
 use Rattle.cells.specs.Held.{Standing, held}
-use Rattle.cells.proofs.Opens.{held_cleared, cleared_stands, cleared_falls}
+use Rattle.cells.proofs.Opens.{held_cleared, cleared_stands}
 use Rattle.table.proofs.Table.make.Goals as goal
 
-pub returns : goal.returns
-returns c =
-    record {
-      cells_are_cleared = c.clear.ensures;
-      cap_is_chosen = refl;
-      holds_nothing = ap held c.clear.ensures ∙ held_cleared (length c.args.cells.now);
-      stands_where_allowed = λ h. subst (λ x. Standing x c.args.cap) (sym c.clear.ensures) (cleared_stands (length c.args.cells.now) c.args.cap h);
-      falls_where_refused = λ h s. cleared_falls (length c.args.cells.now) c.args.cap h (subst (λ x. Standing x c.args.cap) c.clear.ensures s);
-      same_cells = refl;
-    }
+pub returns-clause-holds_nothing : goal.returns-clause-holds_nothing
+returns-clause-holds_nothing c = ap held (c.fill.ensures.after (λ y k. search rules)) ∙ held_cleared (length c.args.cells.now)
+
+pub returns-clause-stands_where_allowed : goal.returns-clause-stands_where_allowed
+returns-clause-stands_where_allowed c =
+    λ h. subst (λ x. Standing x c.args.cap) (sym (c.fill.ensures.after (λ y k. search rules))) (cleared_stands (length c.args.cells.now) c.args.cap h)

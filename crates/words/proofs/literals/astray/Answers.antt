@@ -1,20 +1,15 @@
-use Rattle.std.proofs.Common.{◌≡◌, ◌+◌, max, [], get_or, drop, arith}
-use Rattle.grammar.specs.Slots.{common, furthest}
-use Rattle.words.proofs.literals.astray.Goals.{then-most-far, else-most-far}
-use Rattle.words.specs.Texts.{texts}
-use Rattle.std.proofs.lemmas.List.{at_drop_more, at_drop_all}
+use Rattle.std.proofs.Common.{rules, sym, ◌∙◌, ap, List, ℕ}
+use Rattle.std.specs.Borrow.{Bor}
+use Rattle.std.specs.Option.{unwrap_or}
+use Rattle.std.proofs.lemmas.Iterator.{YieldsList-from_slice, YieldsList-from_map}
+use Rattle.std.proofs.lemmas.Iterator.Adapters.{option_map_id}
+use Rattle.std.proofs.lemmas.Iterator.Consumers.{max_from_yields_List}
+use Rattle.grammar.specs.Slots.{common}
+use Rattle.words.proofs.Texts.{furthest_most}
 use Rattle.words.proofs.literals.astray.Goals as goal
-
-pub loop-word-init : goal.loop-word-init
-loop-word-init c = omega arith
-
-pub loop-word-preserved : goal.loop-word-preserved
-loop-word-preserved c =
-    let more : furthest (texts (drop c.loop-word.word-index c.args.words.now)) c.args.text.now ≡ max (common c.args.text.now (get_or c.args.words.now c.loop-word.word-index record { ref_ptr = (0, 0); now = [] }).now) (furthest (texts (drop (c.loop-word.word-index + 1) c.args.words.now)) c.args.text.now)
-    = at_drop_more (λ l. furthest (texts l) c.args.text.now) c.args.words.now c.loop-word.word-index _ c.loop-word-test.true in
-    let far = c.shared-far.ensures in
-    elim c.if-most-far.branch [ then-most-far w ↦ omega (arith, w.most-is) | else-most-far w ↦ omega (arith, w.most-is) ]
 
 pub returns : goal.returns
 returns c =
-    omega (arith, at_drop_all (λ l. furthest (texts l) c.args.text.now) c.args.words.now c.loop-word.word-index c.loop-word-test.false)
+    let met = max_from_yields_List _ c.max.result c.max.ensures.ran
+    (YieldsList-from_map _ (λ (a : Bor (List ℕ)). common c.args.text.now a.now) (YieldsList-from_slice c.args.words.now cc) c.map.ensures.closure (λ x r q k. search rules)) in
+    c.unwrap_or.ensures ∙ ap (λ o. unwrap_or o 0) (sym (option_map_id c.max.result) ∙ met) ∙ furthest_most _ _

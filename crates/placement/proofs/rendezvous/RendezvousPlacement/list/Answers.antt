@@ -1,4 +1,4 @@
-use Rattle.std.proofs.Common.{◌≡◌, ℕ, ◌≤◌, min, take, sym, refl, ap, ◌∙◌, arith, length-take}
+use Rattle.std.proofs.Common.{◌≡◌, ℕ, ◌≤◌, min, take, sym, refl, ap, ◌∙◌, arith}
 use Rattle.order.specs.Sorting.{sort}
 use Rattle.order.proofs.Sorts.{length_sort}
 use Rattle.placement.specs.declared.roster.Roster.{Roster}
@@ -9,13 +9,8 @@ use Rattle.placement.specs.Firsts.{firsts_rostered, ahead_ordered, take_whole, h
 use Rattle.placement.proofs.Holding.{kept, members_rostered, length_members}
 use Rattle.placement.proofs.rendezvous.RendezvousPlacement.list.Goals as goal
 
-pub heaviest-word-requires : goal.heaviest-word-requires
-heaviest-word-requires c =
-    let r = c.args.roster.now in
-    let fits : r.len ≤ 16 = r.fits in
-    let l = length_members r in
-    let m : c.list_len-count.result ≤ r.len = (let e = c.list_len-count.ensures in omega arith) in
-    simp length-take (omega arith, omega arith)
+pub heaviest-requires : goal.heaviest-requires
+heaviest-requires c = let l = length_members c.args.roster.now in omega (arith, c.list_len-count.ensures)
 
 -- what the code takes is what the rule lists
 listed : (r : Roster) (k copies count : ℕ) → count ≡ min (nearest 4 copies) r.len →
@@ -31,7 +26,7 @@ invariant_of-result c =
     let count = c.list_len-count.result in
     let some : 1 ≤ r.len = r.some in
     let e = c.list_len-count.ensures in
-    kept c.heaviest-word.result count r.stores (take count (sort (ahead c.args.key) (members r))) r.few c.heaviest-word.ensures
+    kept c.heaviest.result count r.stores (take count (sort (ahead c.args.key) (members r))) r.few c.heaviest.ensures
     (firsts_rostered (ahead c.args.key) (ahead_ordered c.args.key) r.stores count (members r) (omega arith) (members_rostered r))
 
 pub returns : goal.returns
@@ -39,7 +34,7 @@ unfolding rendezvous members
 returns c =
     let r = c.args.roster.now in
     let k = c.args.key in
-    let e = c.heaviest-word.ensures ∙ listed r k c.args.copies c.list_len-count.result c.list_len-count.ensures in
+    let e = c.heaviest.ensures ∙ listed r k c.args.copies c.list_len-count.result c.list_len-count.ensures in
     record {
       follows_rule = e;
       stores_kept = refl;

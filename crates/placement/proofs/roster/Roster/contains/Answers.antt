@@ -1,7 +1,12 @@
-use Rattle.std.proofs.Common.{is_some, ap, ◌∙◌}
+use Rattle.std.proofs.Common.{eqb, rules, tests, sym, ◌∙◌}
+use Rattle.std.proofs.lemmas.Iterator.Consumers.{YieldsList-from_first}
+use Rattle.std.proofs.lemmas.Iterator.Search.{any_from_yields_List}
 use Rattle.placement.specs.Rosters.{members}
-use Rattle.placement.proofs.Holding.{place_member}
+use Rattle.placement.proofs.Holding.{member_any}
 use Rattle.placement.proofs.roster.Roster.contains.Goals as goal
 
 pub returns : goal.returns
-returns c = c.is_some.ensures ∙ ap is_some c.position.ensures ∙ place_member c.args.store (members c.args.self.now)
+returns c =
+    let R = members c.args.self.now in
+    any_from_yields_List (λ x. eqb x c.args.store) _ _ c.any.result c.any.ensures.ran (YieldsList-from_first (λ x. x) (λ m. m) R c.iter.ensures) (λ x b q k. search (rules, tests))
+    ∙ sym (member_any c.args.store R)

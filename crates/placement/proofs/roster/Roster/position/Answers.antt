@@ -1,32 +1,17 @@
-use Rattle.std.proofs.Common.{◌<◌, arith}
-use Rattle.lists.specs.Numbers.{place_of}
-use Rattle.lists.proofs.Places.{ended}
-use Rattle.placement.specs.Packing.{unpack}
+use Rattle.std.proofs.Common.{eqb, length, inl, rules, tests, sym, ap, ◌∙◌, arith}
+use Rattle.std.proofs.lemmas.Iterator.Consumers.{YieldsList-from_first}
+use Rattle.std.proofs.lemmas.Iterator.Search.{position_from_yields_List}
 use Rattle.placement.specs.Rosters.{members}
-use Rattle.placement.proofs.Digits.{length_unpack}
-use Rattle.placement.proofs.Holding.{found_from, found_here, found_later}
+use Rattle.placement.proofs.Holding.{length_members, place_position}
 use Rattle.placement.proofs.roster.Roster.position.Goals as goal
 
-pub returns-then-number_at-store : goal.returns-then-number_at-store
-unfolding members
-returns-then-number_at-store c =
-    let r = c.args.self.now in
-    let l = length_unpack r.word r.len in
-    let h : c.loop-i.i < r.len = omega arith in
-    found_here c.args.store c.number_at.result c.loop-i.i (unpack r.word r.len) (omega arith) (c.number_at.ensures.1 r.len h) c.loop-i.invariant c.if-number_at-store.true
-
-pub loop-i-preserved : goal.loop-i-preserved
-unfolding members
-loop-i-preserved c =
-    let r = c.args.self.now in
-    let l = length_unpack r.word r.len in
-    let h : c.loop-i.i < r.len = omega arith in
-    found_later c.args.store c.number_at.result c.loop-i.i (unpack r.word r.len) (omega arith) (c.number_at.ensures.1 r.len h) c.loop-i.invariant c.if-number_at-store.false
+pub position-requires-clause-fits : goal.position-requires-clause-fits
+position-requires-clause-fits c =
+    let l = ap length c.iter.ensures ∙ length_members c.args.self.now in
+    inl (omega (arith, c.args.self.now.fits))
 
 pub returns : goal.returns
-unfolding members
 returns c =
-    let r = c.args.self.now in
-    let L = unpack r.word r.len in
-    let l = length_unpack r.word r.len in
-    ended (found_from c.args.store c.loop-i.i) L c.loop-i.i (place_of c.args.store L) (omega arith) c.loop-i.invariant
+    let R = members c.args.self.now in
+    position_from_yields_List (λ x. eqb x c.args.store) _ _ c.position.result c.position.ensures.ran (YieldsList-from_first (λ x. x) (λ m. m) R c.iter.ensures) (λ x b q k. search (rules, tests))
+    ∙ sym (place_position c.args.store R)

@@ -1,4 +1,4 @@
-use Rattle.std.proofs.Common.{◌+◌, ◌≤◌, [], ◌∷◌, ◌++◌, Ok, sym, refl, ap, ◌∙◌, arith}
+use Rattle.std.proofs.Common.{◌+◌, ◌≤◌, [], ◌∷◌, ◌++◌, Ok, sym, ap, ◌∙◌, arith}
 use Rattle.placement.specs.Rosters.{members}
 use Rattle.placement.proofs.Holding.{kept, members_rostered, length_members, push_roster, rostered_push_few, with_accepts}
 use Rattle.placement.proofs.roster.Roster.with.Goals as goal
@@ -18,11 +18,8 @@ invariant_of-result c =
     kept c.number_pushed-word.result (r.len + 1) r.stores (members r ++ c.args.store ∷ []) r.few c.number_pushed-word.ensures
     (push_roster r.stores (members r) c.args.store (members_rostered r) (sym c.if-contains.ensures) c.if-store-self.false)
 
-pub returns : goal.returns
+pub returns-clause-lists : goal.returns-clause-lists
 unfolding members
-returns c =
+returns-clause-lists c =
     let r = c.args.self.now in
-    record {
-      lists = ap Ok c.number_pushed-word.ensures ∙ sym (with_accepts r.stores c.args.store (members r) c.if-store-self.false (sym c.if-contains.ensures));
-      stores_held = refl;
-    }
+    ap Ok c.number_pushed-word.ensures ∙ sym (with_accepts r.stores c.args.store (members r) c.if-store-self.false (sym c.if-contains.ensures))
