@@ -396,8 +396,9 @@ impl<'a> Store for Log<'a> {
         if self.refuses(present) {
             return Err(StoreFault::Full);
         }
+        let answer = if present { Put::Replaced } else { Put::New };
         self.append(put_record(key, value));
-        Ok(if present { Put::Replaced } else { Put::New })
+        Ok(answer)
     }
 
     fn remove(&mut self, key: u64) -> bool {

@@ -1,9 +1,9 @@
 use Rattle.std.proofs.Common.{◌≡◌, length, sym, refl, ap, ◌∙◌, arith}
 use Rattle.codec.specs.Words.{over}
 use Rattle.log_theory.specs.Rows.{stays_in}
-use Rattle.log_theory.specs.Moves.{stays, packed, stay_count}
+use Rattle.log_theory.specs.Moves.{stays}
 use Rattle.log_theory.proofs.Rows.{length_row, stays_row}
-use Rattle.log_theory.proofs.Slots.{same_tape, copied_slot}
+use Rattle.log_theory.proofs.Slots.{copied_slot}
 use Rattle.log_theory.proofs.Packs.{stays_still, pack_one, pack_none}
 use Rattle.log_store.proofs.compact.Goals as goal
 use Rattle.log_store.proofs.compact.Goals.{then-is_last_put, else-is_last_put}
@@ -33,9 +33,3 @@ loop-i-preserved c =
           let p = pack_none bs n i c.requires t cur e c.loop-i.front (sym s ∙ v.if-is_last_put.false) c.loop-i.invariant.1 in
           (v.bytes-is ∙ p.0, v.front-is ∙ p.1)
     ]
-
-pub returns : goal.returns
-returns c =
-    let e : c.loop-i.i ≡ c.args.used = omega arith in
-    same_tape _ _ _ _ (c.loop-i.invariant.0 ∙ ap (λ z. over c.args.bytes.now 0 (packed c.args.bytes.now c.args.used z)) e)
-    (c.loop-i.invariant.1 ∙ ap (stay_count c.args.bytes.now c.args.used) e)

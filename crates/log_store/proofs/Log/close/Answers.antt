@@ -3,11 +3,8 @@ use Rattle.log_theory.specs.Tape.{tape, pairs_of}
 use Rattle.log_theory.specs.Image.{closed_bytes}
 use Rattle.log_theory.specs.Laws.{OpensAnywhere}
 use Rattle.log_theory.proofs.Calls.{slots_within}
-use Rattle.log_theory.proofs.Images.{fit, opens_again}
+use Rattle.log_theory.proofs.Images.{opens_again}
 use Rattle.log_store.proofs.Log.close.Goals as goal
-
-pub seal-requires : goal.seal-requires
-seal-requires c = fit (tape c.args.self.bytes.now c.args.self.used) c.args.self.cap c.requires.standing
 
 pub returns : goal.returns
 returns c =

@@ -4,12 +4,9 @@ use Rattle.codec.specs.declared.Trailer.{Trailer}
 use Rattle.codec.specs.Words.{Bytes}
 use Rattle.log_theory.specs.Tape.{tape, records, held, Standing}
 use Rattle.log_theory.specs.Image.{opened_cap, image_tape, is_image}
-use Rattle.log_theory.proofs.Images.{image_within, image_stands, image_falls, legal_is_accepted}
+use Rattle.log_theory.proofs.Images.{image_stands, image_falls, legal_is_accepted}
 use Rattle.log_store.proofs.Log.open.Goals as goal
 use Rattle.log_store.proofs.Log.open.Goals.{then-holds_image, else-holds_image}
-
-pub trailer-requires : goal.trailer-requires
-trailer-requires c = image_within c.args.bytes.now c.args.n (sym c.if-holds_image.ensures)
 
 pub returns : goal.returns
 returns c =

@@ -6,8 +6,8 @@ use Rattle.log_theory.specs.Moves.{put_tape}
 use Rattle.log_theory.proofs.Calls.{put_stands}
 use Rattle.log_store.proofs.LogStore.put.Goals as goal
 
-pub returns-then-present-clause-stands : goal.returns-then-present-clause-stands
-returns-then-present-clause-stands c =
+pub returns-clause-stands : goal.returns-clause-stands
+returns-clause-stands c =
     let s = c.args.self.now in
     let n = c.append.new.self in
     let t = tape s.bytes.now s.used in
@@ -15,26 +15,8 @@ returns-then-present-clause-stands c =
     let e : tape n.bytes.now n.used ≡ put_tape t s.cap c.args.key c.args.value = grind (arith, common_steps) in
     subst (Standing (tape n.bytes.now n.used)) (sym c.append.ensures.cap_stays) (subst (λ (u : Tape). Standing u s.cap) (sym e) (put_stands t s.cap c.args.key c.args.value c.requires fits).0)
 
-pub returns-then-present-clause-pairs_follow_put : goal.returns-then-present-clause-pairs_follow_put
-returns-then-present-clause-pairs_follow_put c =
-    let s = c.args.self.now in
-    let n = c.append.new.self in
-    let t = tape s.bytes.now s.used in
-    let fits : FitsWords c.args.key c.args.value = record { key_fits = omega arith; a_fits = search rules; b_fits = search rules } in
-    let e : tape n.bytes.now n.used ≡ put_tape t s.cap c.args.key c.args.value = grind (arith, common_steps) in
-    ap pairs_of e ∙ (put_stands t s.cap c.args.key c.args.value c.requires fits).1
-
-pub returns-else-present-clause-stands : goal.returns-else-present-clause-stands
-returns-else-present-clause-stands c =
-    let s = c.args.self.now in
-    let n = c.append.new.self in
-    let t = tape s.bytes.now s.used in
-    let fits : FitsWords c.args.key c.args.value = record { key_fits = omega arith; a_fits = search rules; b_fits = search rules } in
-    let e : tape n.bytes.now n.used ≡ put_tape t s.cap c.args.key c.args.value = grind (arith, common_steps) in
-    subst (Standing (tape n.bytes.now n.used)) (sym c.append.ensures.cap_stays) (subst (λ (u : Tape). Standing u s.cap) (sym e) (put_stands t s.cap c.args.key c.args.value c.requires fits).0)
-
-pub returns-else-present-clause-pairs_follow_put : goal.returns-else-present-clause-pairs_follow_put
-returns-else-present-clause-pairs_follow_put c =
+pub returns-clause-pairs_follow_put : goal.returns-clause-pairs_follow_put
+returns-clause-pairs_follow_put c =
     let s = c.args.self.now in
     let n = c.append.new.self in
     let t = tape s.bytes.now s.used in
