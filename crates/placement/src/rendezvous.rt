@@ -6,14 +6,13 @@ ghost use Rattle.placement.specs.Packing.{unpack};
 ghost use Rattle.placement.specs.Rosters.{members};
 ghost use Rattle.placement.specs.Laws.{nearest};
 ghost use Rattle.placement.specs.Rendezvous.{digest as digest_of, weight_at, ahead, rendezvous as rendezvous_rule, Heaviest};
-ghost use Rattle.placement.specs.Candidates.{candidate, store_of, Numbered};
-ghost use Rattle.placement.specs.Comparing.{candidates_ordered};
+ghost use Rattle.placement.specs.Candidates.{candidate, heavier, store_of, Numbered};
+ghost use Rattle.placement.specs.Comparing.{heavier_ordered};
 ghost use Rattle.placement.specs.Firsts.{rendezvous_lawful};
 
 use crate::number_pushed;
 use crate::placing::Placement;
 use crate::roster::Roster;
-use arrayvec::ArrayVec;
 use order::{Order, select_first};
 use std::cmp::Reverse;
 
@@ -35,7 +34,13 @@ pub struct Candidate {
 }
 
 impl Order for Candidate {
-    ghost ordered = { candidates_ordered };
+    ghost before = { heavier };
+
+    ghost ordered = { heavier_ordered };
+
+    fn comes_before(&self, other: &Candidate) -> bool {
+        self <= other
+    }
 }
 
 // A key folded to 31 bits.
@@ -55,19 +60,18 @@ fn weight(digest: u64, store: usize) -> u64
     (A * (start ^ digest) + B) % MODULUS
 }
 
-// The members of a roster, each with its weight.
-fn weigh(key: u64, roster: &Roster) -> ArrayVec<Candidate, 16>
-    ensures { result.items ≡ map (candidate key) (members roster.now) }
+// Writes the members of a roster, each with its weight, over a slice of as many.
+fn weigh(key: u64, roster: &Roster, candidates: &mut [Candidate])
+    requires { length candidates.old ≡ length (members roster.now) }
+    ensures { candidates.new ≡ map (candidate key) (members roster.now) }
 {
     let d = digest(key);
-    let mut candidates = ArrayVec::new();
-    for store in roster.iter() {
-        candidates.push(Candidate {
+    for (place, store) in roster.iter().enumerate() {
+        candidates[place] = Candidate {
             weight: Reverse(weight(d, store)),
             store,
-        });
+        };
     }
-    candidates
 }
 
 // The stores of some candidates, packed.
@@ -82,15 +86,14 @@ fn packed(candidates: &[Candidate]) -> u64
     word
 }
 
-// The first members of a roster by weight, packed.
-fn heaviest(key: u64, roster: &Roster, count: usize) -> u64
-    requires { count ≤ length (members roster.now) }
+// The first members of a roster by weight, packed, selected in a slice of as many as it has.
+fn heaviest(key: u64, roster: &Roster, count: usize, candidates: &mut [Candidate]) -> u64
+    requires { (length candidates.old ≡ length (members roster.now)) × (count ≤ length candidates.old) }
     ensures { unpack result count ≡ take count (sort (ahead key) (members roster.now)) }
 {
-    let mut candidates = weigh(key, roster);
-    let ranked = candidates.as_mut_slice();
-    select_first(ranked, count);
-    packed(&ranked[..count])
+    weigh(key, roster, candidates);
+    select_first(candidates, count);
+    packed(&candidates[..count])
 }
 
 // How long a list is: as many as the copies, 1 to 4, or as the members where these are fewer.
@@ -119,8 +122,9 @@ impl Placement for Rendezvous {
         ensures heaviest { Heaviest key (members roster.now) (members result) }
     {
         let count = list_len(copies, roster.len);
+        let mut room = [Candidate::default(); 16]; // fixed memory, no heap
         Roster {
-            word: heaviest(key, roster, count),
+            word: heaviest(key, roster, count, &mut room[..roster.len]),
             len: count,
             stores: roster.stores,
         }

@@ -4,16 +4,15 @@
 // A bank is lent to one call at a time and held by nothing, so bank, list and key come beside one another.
 #![tactic(auto)]
 
-ghost use Rattle.std.specs.Prelude.{◌≡◌, ◌+◌, ◌<◌, ◌≤◌, ◌++◌, length};
+ghost use Rattle.std.specs.Prelude.{◌≡◌, ◌+◌, ◌<◌, ◌≤◌, ◌++◌, length, take};
 ghost use Rattle.placement.specs.Rosters.{members};
 ghost use Rattle.store.specs.Stores.{nth};
 ghost use Rattle.machine.specs.Books.{first_outside};
 ghost use Rattle.machine.specs.Lent.{full_for, first_full, first_holding, found_on, held_on, put_all, put_some, erase_all, erase_some, least};
 ghost use Rattle.machine.specs.Statements.{cursor_of};
 ghost use Rattle.walks.specs.Outcomes.{put_result, put_stores, carry_result, carry_stores};
-ghost use Rattle.walks.specs.Keys.{next_keys, smallest_of};
+ghost use Rattle.walks.specs.Keys.{listed, next_keys, smallest_of};
 
-use arrayvec::ArrayVec;
 use bank::Bank;
 use machine::answer::Moved;
 use machine::fault::StoreRefusal;
@@ -121,18 +120,32 @@ pub fn remove<B: Bank>(bank: &mut B, list: &Roster, key: u64) -> bool
     held
 }
 
-// Puts the next key of each store of a list, counted from a key, behind the others in a room.
-fn gather<B: Bank>(bank: &B, list: &Roster, from: u64, room: &mut ArrayVec<u64, 32>)
-    requires standing { B.Bank.standing bank.now }
-    requires room_enough { length room.old.items + length (members list.now) ≤ 32 }
-    ensures gathers { room.new.items ≡ room.old.items ++ next_keys (members list.now) (B.Bank.stores bank.now) from }
-    ensures ends { length room.new.items ≤ length room.old.items + length (members list.now) }
+// Writes a key behind the others in a room, where there is one; answers where they end.
+fn noted(room: &mut [u64], end: usize, key: Option<u64>) -> usize
+    requires { end < length room.old }
+    ensures appends { take result room.new ≡ take end room.old ++ listed key }
+    ensures ends { result ≤ end + 1 }
 {
+    let Some(key) = key else {
+        return end;
+    };
+    room[end] = key;
+    end + 1
+}
+
+// Writes the next key of each store of a list, counted from a key, into a room from a place on; answers where they end.
+fn gather<B: Bank>(bank: &B, list: &Roster, from: u64, room: &mut [u64], start: usize) -> usize
+    requires standing { B.Bank.standing bank.now }
+    requires room_enough { start + length (members list.now) ≤ length room.old }
+    ensures gathers { take result room.new ≡ take start room.old ++ next_keys (members list.now) (B.Bank.stores bank.now) from }
+    ensures ends { result ≤ start + length (members list.now) }
+{
+    let mut end = start;
     for store in list.iter() {
-        if let Some(key) = bank.next(store, from) {
-            room.push(key);
-        }
+        let next = bank.next(store, from);
+        end = noted(room, end, next);
     }
+    end
 }
 
 // The smallest of some keys, which are left in another order: by the one selection function, which a step is to use.
@@ -155,10 +168,10 @@ pub fn lowest<B: Bank>(bank: &B, roster: &Roster, target: &Roster, cursor: Curso
     let Cursor::At(from) = cursor else {
         return None;
     };
-    let mut room = ArrayVec::new();
-    gather(bank, roster, from, &mut room);
-    gather(bank, target, from, &mut room);
-    smallest(room.as_mut_slice())
+    let mut room = [0; 32]; // fixed memory, no heap: as many next keys as two rosters have members
+    let some = gather(bank, roster, from, &mut room, 0);
+    let all = gather(bank, target, from, &mut room, some);
+    smallest(&mut room[..all])
 }
 
 // Puts into the gained store.

@@ -1,4 +1,4 @@
-use Rattle.std.proofs.Common.{sym, ap, ◌∙◌, arith}
+use Rattle.std.proofs.Common.{◌≤◌, length, sym, ap, ◌∙◌, arith}
 use Rattle.placement.specs.Packing.{unpack}
 use Rattle.placement.specs.Rosters.{members}
 use Rattle.placement.proofs.Holding.{length_members, members_small}
@@ -8,14 +8,14 @@ use Rattle.placement.proofs.rendezvous.heaviest.Goals as goal
 pub packed-requires : goal.packed-requires
 packed-requires c =
     let r = c.args.roster.now in
-    let weighed = c.as_mut_slice-ranked.ensures.value ∙ c.weigh-candidates.ensures in
     let l = length_members r in
-    let n = front_length c.args.key c.args.count (members r) _ _ weighed c.select_first.ensures.rearranged c.requires in
-    (omega (arith, n, r.fits), front_numbered c.args.key c.args.count (members r) _ _ weighed c.select_first.ensures.rearranged (members_small r))
+    let h : c.args.count ≤ length (members r) = omega (arith, c.requires.0, c.requires.1) in
+    let n = front_length c.args.key c.args.count (members r) _ _ c.weigh.ensures c.select_first.ensures.rearranged h in
+    (omega (arith, n, l, r.fits, c.requires.0, c.requires.1), front_numbered c.args.key c.args.count (members r) _ _ c.weigh.ensures c.select_first.ensures.rearranged (members_small r))
 
 pub returns : goal.returns
 returns c =
     let R = members c.args.roster.now in
-    let weighed = c.as_mut_slice-ranked.ensures.value ∙ c.weigh-candidates.ensures in
-    let n = front_length c.args.key c.args.count R _ _ weighed c.select_first.ensures.rearranged c.requires in
-    ap (unpack c.packed.result) (sym n) ∙ c.packed.ensures ∙ front_stores c.args.key c.args.count R _ _ weighed c.select_first.ensures.front_sorted
+    let h : c.args.count ≤ length R = omega (arith, c.requires.0, c.requires.1) in
+    let n = front_length c.args.key c.args.count R _ _ c.weigh.ensures c.select_first.ensures.rearranged h in
+    ap (unpack c.packed.result) (sym n) ∙ c.packed.ensures ∙ front_stores c.args.key c.args.count R _ _ c.weigh.ensures c.select_first.ensures.front_sorted

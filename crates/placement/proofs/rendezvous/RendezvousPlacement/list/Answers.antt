@@ -1,4 +1,4 @@
-use Rattle.std.proofs.Common.{◌≡◌, ℕ, ◌≤◌, min, take, sym, refl, ap, ◌∙◌, arith}
+use Rattle.std.proofs.Common.{◌≡◌, ℕ, ◌≤◌, min, take, sym, refl, ap, ◌∙◌, arith, length-take}
 use Rattle.order.specs.Sorting.{sort}
 use Rattle.order.proofs.Sorts.{length_sort}
 use Rattle.placement.specs.declared.roster.Roster.{Roster}
@@ -10,7 +10,12 @@ use Rattle.placement.proofs.Holding.{kept, members_rostered, length_members}
 use Rattle.placement.proofs.rendezvous.RendezvousPlacement.list.Goals as goal
 
 pub heaviest-requires : goal.heaviest-requires
-heaviest-requires c = let l = length_members c.args.roster.now in omega (arith, c.list_len-count.ensures)
+heaviest-requires c =
+    let r = c.args.roster.now in
+    let fits : r.len ≤ 16 = r.fits in
+    let l = length_members r in
+    let m : c.list_len-count.result ≤ r.len = (let e = c.list_len-count.ensures in omega arith) in
+    simp length-take (omega arith, omega arith)
 
 -- what the code takes is what the rule lists
 listed : (r : Roster) (k copies count : ℕ) → count ≡ min (nearest 4 copies) r.len →
