@@ -1,10 +1,10 @@
 -- The turns of the table's walk, of which what is left gives the whole; and the keys of its cells.
-use Rattle.std.proofs.Common.{◌≡◌, ℕ, suc, ◌+◌, ◌-◌, ◌%◌, ◌<◌, ◌≤◌, min, Bool, true, false, cond, eqb, leb, List, [], ◌∷◌, ◌++◌, length, get_or, Some, None, Option, sym, refl, ap, ◌∙◌, subst, ⊎_elim, mod-lt, mod-eq_of_lt, length-append, arith}
-use Rattle.std.proofs.Math.Nat.{mod-eq-sub-mod}
-use Rattle.std.proofs.lemmas.List.{get_or_append_left, get_or-append_right}
-use Rattle.std.proofs.lemmas.List.FromFn.{length-range_with_len, get_or-range_with_len}
-use Rattle.std.proofs.lemmas.Bool.{cond-true, cond-false, eq-eqb, ne_eqb, cases_lt}
-use Rattle.std.specs.List.{range_with_len, filter, filter_map, reduce}
+use Rattle.std.proofs.Common.{◌≡◌, ℕ, suc, ◌+◌, ◌-◌, ◌%◌, ◌<◌, cond, eqb, leb, List, [], ◌∷◌, length, is_some, Some, None, Option, sym, refl, ap, ◌∙◌, subst, add-zero, add-suc, mod-lt, mod-eq_of_lt, add-one, arith}
+use native.Mathlib.Nat.{mod-mod, suc-mod, mod_self}
+use Rattle.std.proofs.lemmas.List.Recursion.{is_sum_by}
+use Rattle.std.proofs.lemmas.Bool.{cond-true, cond-false, eq-eqb, ne_eqb}
+use Rattle.std.specs.Int.{from_bool}
+use Rattle.std.specs.List.{fold, sum_by}
 use Rattle.std.specs.Option.{option_or}
 use Rattle.pairs.specs.Pairs.{next_key, nearer}
 use Rattle.pairs.proofs.Maps.{next_insert, nearer_assoc}
@@ -13,49 +13,32 @@ use Rattle.cells.specs.declared.Cell.{Cell}
 use Rattle.cells.specs.declared.Cell.TheVariants.{Empty, Live, Gone}
 use Rattle.cells.specs.declared.Walked.{Walked}
 use Rattle.cells.specs.Walk.{cell_at, seat, walk_step, walk_from, walk}
-use Rattle.cells.specs.Held.{key_of, held, live_count}
+use Rattle.cells.specs.Held.{key_of, held, live_one, live_count}
 
--- the places of the walk: from its home to the last, and on from 0
-abbrev pub places : ℕ → ℕ → List ℕ
-places n k = range_with_len (k % n) (n - k % n) ++ range_with_len 0 (k % n)
+-- the walk's place
 
-pub places_many : (n k : ℕ) → 0 < n → length (places n k) ≡ n
-places_many n k h =
-    let s : k % n < n = mod-lt k h in
-    let a = length-range_with_len (k % n) (n - k % n) in
-    let b = length-range_with_len 0 (k % n) in
-    omega (arith, length-append (range_with_len (k % n) (n - k % n)) (range_with_len 0 (k % n)))
+pub seat_none : (n k : ℕ) → k % n ≡ seat n k 0
+seat_none n k = rw add-zero (sym (mod-mod k n))
 
--- the i-th of them is the walk's i-th seat
-seat_at : (n k i d : ℕ) → 0 < n → i < n → get_or (places n k) i d ≡ seat n k i
-seat_at n k i d h l =
-    let s = k % n in
-    let sn : s < n = mod-lt k h in
-    ⊎_elim
-    (λ (a : i < n - s).
-    get_or_append_left (range_with_len s (n - s)) (range_with_len 0 s) d i (let e = length-range_with_len s (n - s) in omega arith)
-    ∙ get_or-range_with_len s (n - s) i d a
-    ∙ sym (mod-eq_of_lt (omega arith)))
-    (λ (a : n - s ≤ i).
-    get_or-append_right (range_with_len s (n - s)) (range_with_len 0 s) (n - s) i d (length-range_with_len s (n - s)) a
-    ∙ get_or-range_with_len 0 s (i - (n - s)) d (omega arith)
-    ∙ (let e : 0 + (i - (n - s)) ≡ s + i - n = omega arith in e)
-    ∙ sym (mod-eq-sub-mod (omega arith) ∙ mod-eq_of_lt (omega arith)))
-    (cases_lt i (n - s))
+pub seat_lt : (n k i : ℕ) → 0 < n → seat n k i < n
+seat_lt n k i h = mod-lt (k % n + i) h
+
+seat_suc : (n k i : ℕ) → seat n k (i + 1) ≡ suc (seat n k i) % n
+seat_suc n k i = rw (add-one, add-suc) (suc-mod (k % n + i) n)
+
+-- one step on, at the end of the cells and before it
+pub seat_wraps : (n k i p : ℕ) → p ≡ seat n k i → p + 1 ≡ n → 0 ≡ seat n k (i + 1)
+seat_wraps n k i p e h =
+    sym (seat_suc n k i ∙ ap (λ x. suc x % n) (sym e) ∙ ap (λ x. x % n) (sym (add-one p) ∙ h) ∙ mod_self n)
+
+pub seat_steps : (n k i p : ℕ) → p ≡ seat n k i → p + 1 < n → p + 1 ≡ seat n k (i + 1)
+seat_steps n k i p e h =
+    sym (seat_suc n k i ∙ ap (λ x. suc x % n) (sym e) ∙ ap (λ x. x % n) (sym (add-one p)) ∙ mod-eq_of_lt h)
 
 -- a place is the walk's i-th
 pub record Reached (cs : List Cell) (k i p : ℕ) : Type 0 where
   pub seated : p ≡ seat (length cs) k i
   pub within : i < length cs
-
-pub reached : (cs : List Cell) (k i p : ℕ) → 0 < length cs → (i < length (places (length cs) k)) × (p ≡ get_or (places (length cs) k) i p) → Reached cs k i p
-reached cs k i p h t =
-    let n = length cs in
-    let l : i < n = let m = places_many n k h in let t0 = t.0 in omega arith in
-    record { seated = t.1 ∙ seat_at n k i p h l; within = l }
-
-pub reached_lt : (cs : List Cell) (k i p : ℕ) → Reached cs k i p → p < length cs
-reached_lt cs k i p r = let l = r.within in let h : 0 < length cs = omega arith in rw (r.seated) (mod-lt (k % length cs + i) h)
 
 -- a walk that goes on, after it has met the free cell o, or none
 abbrev pub resumed : Option ℕ → Walked → Walked
@@ -74,6 +57,9 @@ abbrev pub Resumes : List Cell → ℕ → Option ℕ → ℕ → Type 0
 Resumes cs k o i = (f : ℕ) → i + f ≡ length cs → resumed o (walk_from (length cs) cs k f i) ≡ walk cs k
 
 module _ (cs : List Cell) (k : ℕ) where
+  pub walk_begins : Resumes cs k None 0
+  walk_begins f e = let e' : f ≡ length cs = omega arith in ap (λ x. walk_from (length cs) cs k x 0) e'
+
   -- one turn, at the cell c in place p
   walk_turn : (o : Option ℕ) (i p : ℕ) (c : Cell) → Reached cs k i p → cell_at cs p ≡ c → Resumes cs k o i → (f : ℕ) → (i + 1) + f ≡ length cs → resumed o (walk_step k c p (walk_from (length cs) cs k f (i + 1))) ≡ walk cs k
   walk_turn o i p c e h inv f m =
@@ -119,29 +105,40 @@ module _ (cs : List Cell) (k : ℕ) where
       let s : Option ℕ → Walked = λ y. record { found = None; free = y } in
       ap s (sym (or_none o)) ∙ inv 0 (omega arith)
 
--- the keys of the live cells: as many as the pairs, and the least of them from k on is the next
+-- a live cell has a key, and counts 1
 
-pub keys_many : (cs : List Cell) → length (filter_map key_of cs) ≡ live_count cs
-keys_many [] = refl
-keys_many (Empty ∷ cs) = let ih = keys_many cs in omega arith
-keys_many (Live k v ∷ cs) = let ih = keys_many cs in omega arith
-keys_many (Gone ∷ cs) = let ih = keys_many cs in omega arith
+abbrev pub one_a_key : Cell → ℕ
+one_a_key c = from_bool (is_some (key_of c))
 
-least_more : (x : ℕ) (xs : List ℕ) → reduce min (x ∷ xs) ≡ nearer (Some x) (reduce min xs)
-least_more x [] = refl
-least_more x (y ∷ ys) =
-    least_more (min x y) ys
-    ∙ nearer_assoc (Some x) (Some y) (reduce min ys)
-    ∙ ap (nearer (Some x)) (sym (least_more y ys))
+one_lives : (c : Cell) → live_one c ≡ one_a_key c
+one_lives Empty = refl
+one_lives (Live k v) = refl
+one_lives Gone = refl
 
-pub keys_next : (cs : List Cell) (k : ℕ) → reduce min (filter (λ j. leb k j) (filter_map key_of cs)) ≡ next_key (held cs) k
-keys_next [] k = refl
-keys_next (Empty ∷ cs) k = keys_next cs k
-keys_next (Live j v ∷ cs) k = step (filter (λ j. leb k j) (filter_map key_of cs)) (keys_next cs k) ∙ sym (next_insert (held cs) j v k)
-  where
-    step : (js : List ℕ) → reduce min js ≡ next_key (held cs) k → reduce min (cond (leb k j) (j ∷ js) js) ≡ nearer (cond (leb k j) (Some j) None) (next_key (held cs) k)
-    step js e = by (leb k j) where
-      by : (b : Bool) → reduce min (cond b (j ∷ js) js) ≡ nearer (cond b (Some j) None) (next_key (held cs) k)
-      by true = least_more j js ∙ ap (nearer (Some j)) e
-      by false = e
-keys_next (Gone ∷ cs) k = keys_next cs k
+pub keys_sum : (cs : List Cell) → live_count cs ≡ sum_by one_a_key cs
+keys_sum cs = is_sum_by live_count one_a_key refl (λ c xs. ap (λ n. n + live_count xs) (one_lives c)) cs
+
+-- the least of the keys of the live cells from k on is the next
+
+-- the key of a live cell, if it is not below k
+abbrev pub key_from : ℕ → Cell → Option ℕ
+key_from k Empty = None
+key_from k (Live j v) = cond (leb k j) (Some j) None
+key_from k Gone = None
+
+nearer_none : (a : Option ℕ) → nearer a None ≡ a
+nearer_none None = refl
+nearer_none (Some j) = refl
+
+next_from : (cs : List Cell) (k : ℕ) (best : Option ℕ) → fold (λ b c. nearer b (key_from k c)) best cs ≡ nearer best (next_key (held cs) k)
+next_from [] k best = sym (nearer_none best)
+next_from (Empty ∷ cs) k best = ap (λ b. fold (λ b c. nearer b (key_from k c)) b cs) (nearer_none best) ∙ next_from cs k best
+next_from (Live j v ∷ cs) k best =
+    let m : Option ℕ = cond (leb k j) (Some j) None in
+    next_from cs k (nearer best m)
+    ∙ nearer_assoc best m (next_key (held cs) k)
+    ∙ ap (nearer best) (sym (next_insert (held cs) j v k))
+next_from (Gone ∷ cs) k best = ap (λ b. fold (λ b c. nearer b (key_from k c)) b cs) (nearer_none best) ∙ next_from cs k best
+
+pub keys_next : (cs : List Cell) (k : ℕ) → fold (λ b c. nearer b (key_from k c)) None cs ≡ next_key (held cs) k
+keys_next cs k = next_from cs k None

@@ -60,9 +60,9 @@ impl<'a> Table<'a> {
         if n == 0 {
             return Walked { found: None, free };
         }
-        let start = (key % n as u64) as usize;
-        // by place, since places are what a walk tells
-        for place in (start..n).chain(0..start) {
+        let mut place = (key % n as u64) as usize;
+        // stepped by hand: a chain of two ranges takes twice as long a turn
+        for turn in 0..n {
             match self.cells[place] {
                 Cell::Empty => return Walked {
                     found: None,
@@ -75,6 +75,7 @@ impl<'a> Table<'a> {
                 Cell::Live { .. } => {}
                 Cell::Gone => free = free.or(Some(place)),
             }
+            place = if place + 1 == n { 0 } else { place + 1 };
         }
         Walked { found: None, free }
     }
@@ -125,13 +126,17 @@ impl<'a> Store for Table<'a> {
     fn next(&self, key: u64) -> Option<u64> {
         self.cells
             .iter()
-            .filter_map(|c| c.key())
-            .filter(|held| *held >= key)
-            .min()
+            .fold(None, |best: Option<u64>, c| match c.key() {
+                Some(held) if held >= key => Some(best.map_or(held, |b| b.min(held))),
+                _ => best,
+            })
     }
 
     fn count(&self) -> usize {
-        self.cells.iter().filter_map(|c| c.key()).count()
+        self.cells
+            .iter()
+            .map(|c| usize::from(c.key().is_some()))
+            .sum()
     }
 
     fn cap(&self) -> usize {

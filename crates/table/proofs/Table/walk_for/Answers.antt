@@ -1,68 +1,54 @@
-use Rattle.std.proofs.Common.{ℕ, ◌-◌, ◌%◌, ◌<◌, [], ◌∷◌, ◌++◌, length, None, Option, ap, sym, ◌∙◌, subst, rules, arith}
-use Rattle.std.proofs.lemmas.Iterator.{YieldsList-from_range}
-use Rattle.std.proofs.lemmas.Iterator.Consumers.{YieldsList-from_chain, YieldsList-turn, YieldsList-end}
-use Rattle.std.proofs.lemmas.List.{length_push}
+use Rattle.std.proofs.Common.{ℕ, ◌+◌, ◌<◌, length, None, Option, sym, ap, ◌∙◌, subst, arith}
 use Rattle.cells.specs.declared.Walked.{Walked}
-use Rattle.cells.proofs.Turns.{Resumes, Reached, reached, reached_lt, places_many, walk_empty, walk_hit, walk_pass, walk_gone, walk_ends}
+use Rattle.cells.proofs.Turns.{Resumes, seat_none, seat_lt, seat_wraps, seat_steps, walk_begins, walk_empty, walk_hit, walk_pass, walk_gone, walk_ends}
 use Rattle.table.proofs.Table.walk_for.Goals as goal
-use Rattle.table.proofs.Table.walk_for.Goals.{In-Some}
+use Rattle.table.proofs.Table.walk_for.Goals.{then-place-n, else-place-n, in-Live+else-held-key, in-Gone}
 
--- this turn's place is the walk's next
-here : (c : In-Some) → Reached c.args.self.now.cells.now c.args.key (length c.loop-place.yielded) c.in-Some.place
-here c =
-    let n = length c.args.self.now.cells.now in
-    let s = c.args.key % n in
+pub loop-turn-init : goal.loop-turn-init
+loop-turn-init c =
+    let cs = c.args.self.now.cells.now in
+    let n = length cs in
     let h : 0 < n = omega arith in
-    let l : s < n = omega arith in
-    reached c.args.self.now.cells.now c.args.key (length c.loop-place.yielded) c.in-Some.place h
-    (YieldsList-turn
-    (YieldsList-from_chain (YieldsList-from_range s n (n - s) (cc) (omega arith)) (YieldsList-from_range 0 s s (cc) (omega arith)) (cc) (cc))
-    c.loop-place.yielded _ c.loop-place.yielded_by _ _ c.in-Some.place c.in-Some.is c.next.ensures.steps)
-
-pub offset_bounds-self-place : goal.offset_bounds-self-place
-offset_bounds-self-place c = let l = reached_lt _ _ _ _ (here c) in search rules
-
-pub bounds : goal.bounds
-bounds c = reached_lt _ _ _ _ (here c)
+    let e = seat_none n c.args.key in
+    record { seated = e; within = rw e (seat_lt n c.args.key 0 h); resumes = walk_begins cs c.args.key }
 
 pub returns-in-Empty : goal.returns-in-Empty
 returns-in-Empty c =
     let s : Option ℕ → Walked = λ o. record { found = None; free = o } in
     ap s c.or.ensures
-    ∙ walk_empty _ _ c.loop-place.free _ c.in-Some.place (here (goal.at.returns-in-Empty c).In-Some) c.in-Empty.is c.loop-place.invariant.resumes
+    ∙ walk_empty c.args.self.now.cells.now c.args.key c.loop-turn.free c.loop-turn.turn c.loop-turn.place (record { seated = c.loop-turn.invariant.seated; within = c.loop-turn-test.true }) c.in-Empty.is c.loop-turn.invariant.resumes
 
 pub returns-in-Live : goal.returns-in-Live
 returns-in-Live c =
-    walk_hit _ _ c.loop-place.free _ c.in-Some.place c.in-Live.held c.in-Live.value (here (goal.at.returns-in-Live c).In-Some) c.in-Live.is c.if-held-key.true c.loop-place.invariant.resumes
+    walk_hit c.args.self.now.cells.now c.args.key c.loop-turn.free c.loop-turn.turn c.loop-turn.place c.in-Live.held c.in-Live.value
+    (record { seated = c.loop-turn.invariant.seated; within = c.loop-turn-test.true }) c.in-Live.is c.if-held-key.true c.loop-turn.invariant.resumes
 
-pub loop-place-preserved-else-held-key : goal.loop-place-preserved-else-held-key
-loop-place-preserved-else-held-key c =
+pub loop-turn-preserved : goal.loop-turn-preserved
+loop-turn-preserved c =
+    let cs = c.args.self.now.cells.now in
+    let n = length cs in
+    let k = c.args.key in
+    let p = c.loop-turn.place in
+    let i = c.loop-turn.turn in
+    let at = c.loop-turn.invariant.seated in
+    let inv = c.loop-turn.invariant.resumes in
     record {
-      may_go_on = search rules;
-      ends = search rules;
+      seated =
+          elim c.if-place-n.branch [
+            | then-place-n w ↦ w.place-is ∙ seat_wraps n k i p at w.if-place-n.true
+            | else-place-n w ↦ w.place-is ∙ seat_steps n k i p at (let b = c.loop-turn.invariant.within in omega arith)
+          ];
+      within = elim c.if-place-n.branch [ then-place-n w ↦ omega (arith, w.place-is) | else-place-n w ↦ let b = c.loop-turn.invariant.within in omega (arith, w.place-is) ];
       resumes =
-          subst (Resumes c.args.self.now.cells.now c.args.key c.loop-place.free) (sym (length_push c.loop-place.yielded c.in-Some.place))
-          (walk_pass _ _ c.loop-place.free _ c.in-Some.place c.in-Live.held c.in-Live.value (here (goal.at.loop-place-preserved-else-held-key c).In-Some) c.in-Live.is c.if-held-key.false c.loop-place.invariant.resumes);
-    }
-
-pub loop-place-preserved : goal.loop-place-preserved
-loop-place-preserved c =
-    record {
-      may_go_on = search rules;
-      ends = search rules;
-      resumes =
-          subst (λ o. Resumes c.args.self.now.cells.now c.args.key o (length (c.loop-place.yielded ++ c.in-Some.place ∷ []))) (sym c.or-free.ensures)
-          (subst (Resumes c.args.self.now.cells.now c.args.key _) (sym (length_push c.loop-place.yielded c.in-Some.place))
-          (walk_gone _ _ c.loop-place.free _ c.in-Some.place (here (goal.at.loop-place-preserved c).In-Some) c.in-Gone.is c.loop-place.invariant.resumes));
+          elim c.match-self-place.branch [
+            | in-Live+else-held-key w ↦
+                subst (λ o. Resumes cs k o (i + 1)) (sym w.free-is)
+                (walk_pass cs k c.loop-turn.free i p w.in-Live.held w.in-Live.value (record { seated = at; within = c.loop-turn-test.true }) w.in-Live.is w.if-held-key.false inv)
+            | in-Gone w ↦
+                subst (λ o. Resumes cs k o (i + 1)) (sym (w.free-is ∙ w.or-free.ensures))
+                (walk_gone cs k c.loop-turn.free i p (record { seated = at; within = c.loop-turn-test.true }) w.in-Gone.is inv)
+          ];
     }
 
 pub returns : goal.returns
-returns c =
-    let n = length c.args.self.now.cells.now in
-    let s = c.args.key % n in
-    let h : 0 < n = omega arith in
-    let l : s < n = omega arith in
-    let e = YieldsList-end
-    (YieldsList-from_chain (YieldsList-from_range s n (n - s) (cc) (omega arith)) (YieldsList-from_range 0 s s (cc) (omega arith)) (cc) (cc))
-    c.loop-place.yielded _ c.loop-place.yielded_by _ _ c.in-None.is c.next.ensures.steps in
-    walk_ends c.args.self.now.cells.now c.args.key c.loop-place.free (length c.loop-place.yielded) (e.1 ∙ places_many n c.args.key h) c.loop-place.invariant.resumes
+returns c = walk_ends c.args.self.now.cells.now c.args.key c.loop-turn.free c.loop-turn.turn (omega arith) c.loop-turn.invariant.resumes

@@ -1,12 +1,13 @@
-use Rattle.std.proofs.Common.{length}
+use Rattle.std.proofs.Common.{◌≡◌, ◌<◌, length}
+use Rattle.cells.specs.Walk.{seat}
 use Rattle.cells.proofs.Turns.{Resumes}
 use Rattle.table.proofs.Table.walk_for.Given as goal
 
--- what is left of the walk gives the whole
-abbrev pub invariant-loop-place : goal.invariant-loop-place
-invariant-loop-place l =
+-- the place is the walk's next, and what is left of the walk gives the whole
+abbrev pub invariant-loop-turn : goal.invariant-loop-turn
+invariant-loop-turn l =
     record {
-      may_go_on : (goal.iterator-loop-place).can_next l.place-iterator;
-      ends : (goal.iterator-loop-place).is_finite l.place-iterator;
-      resumes : Resumes l.self.cells.now l.key l.free (length l.yielded);
+      seated : l.place ≡ seat (length l.self.cells.now) l.key l.turn;
+      within : l.place < length l.self.cells.now;
+      resumes : Resumes l.self.cells.now l.key l.free l.turn;
     }
